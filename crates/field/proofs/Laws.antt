@@ -1,0 +1,13 @@
+pub mod Xor
+pub mod Computed
+pub mod Linear
+pub mod Product
+pub mod Ring
+pub mod Powers
+pub mod Modulus
+pub mod Sums
+pub mod Maps
+pub mod Duals
+pub mod Pairing
+pub mod Steps
+pub mod Field

@@ -1,0 +1,36 @@
+// Names, bytes and line feeds on standard output.
+use libc::STDOUT_FILENO;
+
+// Writes some bytes as they are.
+pub fn print_word(word: &[u8]) {
+    io::write_all(STDOUT_FILENO, word);
+}
+
+// The hex digit of a number below 16.
+fn digit(n: u8) -> u8 {
+    let low = n % 16;
+    if low < 10 {
+        b'0' + low
+    } else {
+        b'a' - 10 + low
+    }
+}
+
+// Writes a tab and a byte's two hex digits.
+pub fn print_byte(byte: u8) {
+    let high = digit(byte / 16);
+    let low = digit(byte % 16);
+    let pair: [u8; 3] = [b'\t', high, low];
+    io::write_all(STDOUT_FILENO, &pair);
+}
+
+// Writes the hex digit of a number below 16.
+pub fn print_digit(n: u8) {
+    let one: [u8; 1] = [digit(n)];
+    io::write_all(STDOUT_FILENO, &one);
+}
+
+// Ends a line.
+pub fn end_line() {
+    io::write_all(STDOUT_FILENO, b"\n");
+}
