@@ -1,0 +1,204 @@
+-- What a record has that a line makes: it is one of its word, its constants are bytes, and a map has eight columns.
+-- Assumes nothing.
+use mathlib.Core.Path.{_≡_, refl, ap, _∙_}
+use Prim.Native.Nat.{ℕ, suc, _+_, _*_, _-_, _≤_}
+use native.Mathlib.Omega.{arith}
+use mathlib.Core.Bool.{Bool, true, false, _&&_, cond}
+use mathlib.Core.List.{List, [], _∷_}
+use mathlib.Core.Option.{Option, none, some}
+use lib.Dec.{leb, ltb, eqb}
+use lib.ListN.{length, drop, getD, length-drop}
+use borrow.Author.Tests.{leb-true, ltb-true, eqb-true}
+use Rattle.grammar.specs.declared.word.Word.{Word}
+use Rattle.grammar.specs.declared.word.Word.the-variants.{Shares, Map, Input, Origin, Set, Xor, Mul, App, Rand}
+use Rattle.grammar.specs.declared.word.Word.the-variants.{Result, Masked, Output, Unknown}
+use Rattle.grammar.specs.Ascii.{within, hash}
+use Rattle.grammar.specs.Token.{_>>=_, provided, Name, Term, name, byte, hexDigit, readName, readPlain, readHex}
+use Rattle.grammar.specs.Token.{readCount, readConstant, readTerm}
+use Rattle.grammar.specs.Record.{Form, set, xor, mul, app, rand, Record, shares, map, input, origin, assign}
+use Rattle.grammar.specs.Record.{result}
+use Rattle.grammar.specs.Record.{masked, output, each, field, fields, assigned, operands, recordFor}
+use Rattle.grammar.specs.Limits.{columnCount, mostShares}
+use Rattle.grammar.specs.Byte.{Each, IsByte}
+
+-- ---- what an answer holds, if it holds anything
+
+-- what an answer holds, if it holds anything
+abbrev pub Holds : {A : Type 0} → (A → Type 0) → Option A → Type 0
+Holds P none = Unit {0}
+Holds P (some a) = P a
+
+module _ {A B : Type 0} where
+  bind-holds : (P : A → Type 0) (Q : B → Type 0) (o : Option A) (f : A → Option B)
+      → Holds P o → ((a : A) → P a → Holds Q (f a)) → Holds Q (o >>= f)
+  bind-holds P Q none f h g = tt
+  bind-holds P Q (some a) f h g = g a h
+
+  -- whatever it holds
+  bind-any : (Q : B → Type 0) (o : Option A) (f : A → Option B) → ((a : A) → Holds Q (f a)) → Holds Q (o >>= f)
+  bind-any Q none f g = tt
+  bind-any Q (some a) f g = g a
+
+module _ {A : Type 0} (P : A → Type 0) where
+  provided-holds : (b : Bool) (a : A) → (b ≡ true → P a) → Holds P (provided b a)
+  provided-holds true a h = h refl
+  provided-holds false a h = tt
+
+  cond-holds : (b : Bool) (x y : Option A) → (b ≡ true → Holds P x) → Holds P y → Holds P (cond b x y)
+  cond-holds true x y h k = h refl
+  cond-holds false x y h k = k
+
+and-true : (a b : Bool) → a && b ≡ true → (a ≡ true) × (b ≡ true)
+and-true true b h = (refl, h)
+and-true false b h = let z : _≡_ {A = ℕ} 0 1 = cc in absurd (omega arith)
+
+-- ---- fields
+
+hex-byte : (s : List ℕ) → Holds IsByte (readHex s)
+unfolding readHex
+hex-byte s =
+    let a = hexDigit (getD s 0 0) in
+    let b = hexDigit (getD s 1 0) in
+    provided-holds IsByte (eqb (length s) 2 && ltb a 16 && ltb b 16) (16 * a + b) (λ t.
+    let u = and-true (eqb (length s) 2 && ltb a 16) (ltb b 16) t in
+    let v = and-true (eqb (length s) 2) (ltb a 16) (u .0) in
+    omega (arith, ltb-true a 16 (v .1), ltb-true b 16 (u .1)))
+
+-- a count is 1 to 8
+abbrev CountForm : ℕ → Type 0
+CountForm k = (1 ≤ k) × (k ≤ mostShares)
+
+count-formed : (s : List ℕ) → Holds CountForm (readCount s)
+unfolding readCount
+count-formed s =
+    let b = getD s 0 0 in
+    provided-holds CountForm (eqb (length s) 1 && (leb 49 b && leb b 56)) (b - 48) (λ t.
+    let u = and-true (eqb (length s) 1) (leb 49 b && leb b 56) t in
+    let v = and-true (leb 49 b) (leb b 56) (u .1) in
+    let low : 49 ≤ b = leb-true 49 b (v .0) in
+    let high : b ≤ 56 = leb-true b 56 (v .1) in
+    (omega arith, omega arith))
+
+-- a constant is a byte
+abbrev pub FormedTerm : Term → Type 0
+FormedTerm (name n) = Unit {0}
+FormedTerm (byte b) = IsByte b
+
+term-formed : (s : List ℕ) → Holds FormedTerm (readTerm s)
+unfolding readTerm readConstant
+term-formed s =
+    cond-holds FormedTerm (eqb (length s) 0) none
+    (cond (eqb (getD s 0 0) hash) (readHex (drop 1 s) >>= λ v. some (byte v)) (readName s >>= λ n. some (name n)))
+    (λ t. tt)
+    (cond-holds FormedTerm (eqb (getD s 0 0) hash) (readHex (drop 1 s) >>= λ v. some (byte v))
+    (readName s >>= λ n. some (name n))
+    (λ t. bind-holds IsByte FormedTerm (readHex (drop 1 s)) (λ v. some (byte v)) (hex-byte (drop 1 s)) (λ v h. h))
+    (bind-any FormedTerm (readName s) (λ n. some (name n)) (λ n. tt)))
+
+-- as many bytes as there are fields
+Columns : ℕ → List ℕ → Type 0
+Columns n l = (length l ≡ n) × Each IsByte l
+
+hexes-formed : (ps : List (List ℕ)) → Holds (Columns (length ps)) (each readHex ps)
+unfolding each Columns
+hexes-formed [] = (refl, tt)
+hexes-formed (p ∷ ps) =
+    bind-holds IsByte (Columns (suc (length ps))) (readHex p) (λ a. each readHex ps >>= λ rest. some (a ∷ rest))
+    (hex-byte p) (λ a h.
+    bind-holds (Columns (length ps)) (Columns (suc (length ps))) (each readHex ps) (λ rest. some (a ∷ rest))
+    (hexes-formed ps)
+    (λ rest k. (ap suc (k .0), (h, k .1))))
+
+-- ---- records
+
+-- a record of a word
+pub data Fits : Word → Record → Type 0 where
+  fit-shares : {k : ℕ} → 1 ≤ k → k ≤ mostShares → Fits Shares (shares k)
+  fit-map : {n : Name} {c : ℕ} {l : List ℕ} → IsByte c → length l ≡ columnCount → Each IsByte l → Fits Map (map n c l)
+  fit-input : {n : Name} → Fits Input (input n)
+  fit-origin : Fits Origin origin
+  fit-set : {n : Name} {a : Term} → FormedTerm a → Fits Set (assign n (set a))
+  fit-xor : {n : Name} {a b : Term} → FormedTerm a → FormedTerm b → Fits Xor (assign n (xor a b))
+  fit-mul : {n : Name} {a b : Term} → FormedTerm a → FormedTerm b → Fits Mul (assign n (mul a b))
+  fit-app : {n f : Name} {a : Term} → FormedTerm a → Fits App (assign n (app f a))
+  fit-rand : {n : Name} → Fits Rand (assign n rand)
+  fit-result : {n : Name} → Fits Result (result n)
+  fit-masked : Fits Masked masked
+  fit-output : {ns : List Name} → Fits Output (output ns)
+
+fields-holds : (w : Word) (n : ℕ) (ps : List (List ℕ)) (o : Option Record) → (length ps ≡ n + 1 → Holds (Fits w) o)
+    → Holds (Fits w) (fields n ps o)
+fields-holds w n ps o h = cond-holds (Fits w) (eqb (length ps) (n + 1)) o none (λ t. h (eqb-true (length ps) (n + 1) t))
+    tt
+
+-- whatever name it gives, the statement is a record of the word
+abbrev Gives : Word → Form → Type 0
+Gives w f = (n : Name) → Fits w (assign n f)
+
+-- a statement
+assigned-fits : (w : Word) (ps : List (List ℕ)) (o : Option Form) → Holds (Gives w) o → Holds (Fits w) (assigned ps o)
+assigned-fits w ps o h =
+    bind-any (Fits w) (readName (field 1 ps)) (λ n. o >>= λ f. some (assign n f)) (λ n.
+    bind-holds (Gives w) (Fits w) o (λ f. some (assign n f)) h (λ f g. g n))
+
+-- an operand, and what is made of it
+operand-gives : (w : Word) (s : List ℕ) (f : Term → Option Form) → ((a : Term) → FormedTerm a → Holds (Gives w) (f a))
+    → Holds (Gives w) (readTerm s >>= f)
+operand-gives w s f g = bind-holds FormedTerm (Gives w) (readTerm s) f (term-formed s) g
+
+-- two operands
+operands-give : (w : Word) (f : Term → Term → Form) (ps : List (List ℕ))
+    → ((a b : Term) → FormedTerm a → FormedTerm b → Gives w (f a b)) → Holds (Gives w) (operands f ps)
+operands-give w f ps g =
+    operand-gives w (field 2 ps) (λ a. readTerm (field 3 ps) >>= λ b. some (f a b)) (λ a h.
+    operand-gives w (field 3 ps) (λ b. some (f a b)) (λ b k. g a b h k))
+
+-- THEOREM: what a line makes is a record of its word
+pub record-fits : (w : Word) (ps : List (List ℕ)) → Holds (Fits w) (recordFor w ps)
+unfolding recordFor Columns
+record-fits Shares ps =
+    fields-holds Shares 1 ps (readCount (field 1 ps) >>= λ k. some (shares k)) (λ e.
+    bind-holds CountForm (Fits Shares) (readCount (field 1 ps)) (λ k. some (shares k))
+    (count-formed (field 1 ps)) (λ k h. fit-shares (h .0) (h .1)))
+record-fits Map ps =
+    fields-holds Map (2 + columnCount) ps
+    (readPlain (field 1 ps) >>= λ n. readHex (field 2 ps) >>= λ c. each readHex (drop 3 ps) >>= λ l. some (map n c l))
+    (λ e.
+    bind-any (Fits Map) (readPlain (field 1 ps)) (λ n. readHex (field 2 ps) >>= λ c.
+    each readHex (drop 3 ps) >>= λ l. some (map n c l)) (λ n.
+    bind-holds IsByte (Fits Map) (readHex (field 2 ps)) (λ c. each readHex (drop 3 ps) >>= λ l. some (map n c l))
+    (hex-byte (field 2 ps)) (λ c h.
+    bind-holds (Columns (length (drop 3 ps))) (Fits Map) (each readHex (drop 3 ps)) (λ l. some (map n c l))
+    (hexes-formed (drop 3 ps)) (λ l k.
+    fit-map h (k .0 ∙ length-drop 3 ps ∙ ap (λ (i : ℕ). i - 3) e) (k .1)))))
+record-fits Input ps =
+    fields-holds Input 1 ps (readPlain (field 1 ps) >>= λ n. some (input n)) (λ e.
+    bind-any (Fits Input) (readPlain (field 1 ps)) (λ n. some (input n)) (λ n. fit-input))
+record-fits Origin ps = fields-holds Origin 0 ps (some origin) (λ e. fit-origin)
+record-fits Set ps =
+    fields-holds Set 2 ps (assigned ps (readTerm (field 2 ps) >>= λ a. some (set a))) (λ e.
+    assigned-fits Set ps (readTerm (field 2 ps) >>= λ a. some (set a))
+    (operand-gives Set (field 2 ps) (λ a. some (set a)) (λ a h n. fit-set h)))
+record-fits Xor ps =
+    fields-holds Xor 3 ps (assigned ps (operands xor ps)) (λ e.
+    assigned-fits Xor ps (operands xor ps) (operands-give Xor xor ps (λ a b h k n. fit-xor h k)))
+record-fits Mul ps =
+    fields-holds Mul 3 ps (assigned ps (operands mul ps)) (λ e.
+    assigned-fits Mul ps (operands mul ps) (operands-give Mul mul ps (λ a b h k n. fit-mul h k)))
+record-fits App ps =
+    let o = readPlain (field 2 ps) >>= λ f. readTerm (field 3 ps) >>= λ a. some (app f a) in
+    fields-holds App 3 ps (assigned ps o) (λ e.
+    assigned-fits App ps o
+    (bind-any (Gives App) (readPlain (field 2 ps)) (λ f. readTerm (field 3 ps) >>= λ a. some (app f a)) (λ f.
+    operand-gives App (field 3 ps) (λ a. some (app f a)) (λ a h n. fit-app h))))
+record-fits Rand ps =
+    fields-holds Rand 1 ps (assigned ps (some rand)) (λ e. assigned-fits Rand ps (some rand) (λ n. fit-rand))
+record-fits Result ps =
+    fields-holds Result 1 ps (readName (field 1 ps) >>= λ n. some (result n)) (λ e.
+    bind-any (Fits Result) (readName (field 1 ps)) (λ n. some (result n)) (λ n. fit-result))
+record-fits Masked ps = fields-holds Masked 0 ps (some masked) (λ e. fit-masked)
+record-fits Output ps =
+    cond-holds (Fits Output) (within 2 (mostShares + 1) (length ps))
+    (each readName (drop 1 ps) >>= λ ns. some (output ns)) none (λ t.
+    bind-any (Fits Output) (each readName (drop 1 ps)) (λ ns. some (output ns)) (λ ns. fit-output)) tt
+record-fits Unknown ps = tt

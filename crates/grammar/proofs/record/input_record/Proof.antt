@@ -1,0 +1,30 @@
+-- The number of fields is wrong, or each is read by its form. Assumes nothing.
+use Rattle.grammar.proofs.record.input_record.Statement.{statement}
+use Rattle.grammar.proofs.record.input_record.Tie as tie
+use Rattle.grammar.specs.Record.{recordFor}
+use Rattle.grammar.specs.Recorded.{recordIn}
+use borrow.Author.Needs.{needs}
+use borrow.Author.Tests.{eq-eqb, ne-eqb}
+
+piece-count-requires : tie.Need-piece-count-requires
+piece-count-requires c κs = search needs
+
+returns : tie.Need-returns
+unfolding recordIn recordFor
+returns c = simp (← (c .before .piece-count .ensures), ne-eqb _ _ (c .if1 .taken))
+
+plain-field-requires : tie.Need-plain-field-requires
+plain-field-requires c κs = search needs
+
+returns-2 : tie.Need-returns-2
+unfolding recordIn recordFor
+returns-2 c =
+    simp (
+      ← (c .before .before .piece-count .ensures),
+      eq-eqb _ _ (c .before .if1 .left),
+      ← (c .plain-field .ensures),
+    )
+
+pub input-record-spec : {M : Type 1} → statement M
+input-record-spec =
+    tie.close (tie.spec piece-count-requires returns plain-field-requires returns-2)

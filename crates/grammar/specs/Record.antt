@@ -1,0 +1,94 @@
+-- The grammar of one line: its word, the number of its fields, and the form of each (refusal 5, from the line alone).
+use Prim.Native.Nat.{ℕ, _+_}
+use mathlib.Core.Bool.{cond}
+use mathlib.Core.List.{List, [], _∷_}
+use mathlib.Core.Option.{Option, none, some}
+use lib.Dec.{eqb}
+use lib.ListN.{length, getD, drop}
+use Rattle.grammar.specs.declared.word.Word.{Word}
+use Rattle.grammar.specs.declared.word.Word.the-variants.{Shares, Map, Input, Origin, Set, Xor, Mul, App, Rand}
+use Rattle.grammar.specs.declared.word.Word.the-variants.{Result, Masked, Output, Unknown}
+use Rattle.grammar.specs.Ascii.{ascii, sameBytes, within}
+use Rattle.grammar.specs.Limits.{columnCount, mostShares}
+use Rattle.grammar.specs.Token.{_>>=_, Name, Term, readName, readPlain, readHex, readCount, readTerm}
+
+-- the word of a statement that the bytes spell
+unfoldable pub statementWord : List ℕ → Word
+statementWord w =
+    cond (sameBytes w (ascii "set")) Set
+    (cond (sameBytes w (ascii "xor")) Xor
+    (cond (sameBytes w (ascii "mul")) Mul
+    (cond (sameBytes w (ascii "app")) App
+    (cond (sameBytes w (ascii "rand")) Rand
+    Unknown))))
+
+-- the word that the bytes spell
+unfoldable pub wordOf : List ℕ → Word
+wordOf w =
+    cond (sameBytes w (ascii "shares")) Shares
+    (cond (sameBytes w (ascii "map")) Map
+    (cond (sameBytes w (ascii "input")) Input
+    (cond (sameBytes w (ascii "origin")) Origin
+    (cond (sameBytes w (ascii "result")) Result
+    (cond (sameBytes w (ascii "masked")) Masked
+    (cond (sameBytes w (ascii "output")) Output
+    (statementWord w)))))))
+
+-- What a statement computes, as it is written.
+pub data Form : Type 0 where
+  set : Term → Form
+  xor mul : Term → Term → Form
+  app : Name → Term → Form
+  rand : Form
+
+-- A record as it is written.
+pub data Record : Type 0 where
+  shares : ℕ → Record
+  map : Name → ℕ → List ℕ → Record
+  input : Name → Record
+  origin : Record
+  assign : Name → Form → Record
+  result : Name → Record
+  masked : Record
+  output : List Name → Record
+
+-- each field has the form
+unfoldable pub each : {A : Type 0} → (List ℕ → Option A) → List (List ℕ) → Option (List A)
+each f [] = some []
+each f (x ∷ xs) = f x >>= λ a. each f xs >>= λ rest. some (a ∷ rest)
+
+-- piece k of a line: the word is piece 0, the first field after it piece 1
+abbrev pub field : ℕ → List (List ℕ) → List ℕ
+field k ps = getD ps k []
+
+-- the line has the word and n fields
+abbrev pub fields : {A : Type 0} → ℕ → List (List ℕ) → Option A → Option A
+fields n ps r = cond (eqb (length ps) (n + 1)) r none
+
+-- a statement that gives the name of field 1
+abbrev pub assigned : List (List ℕ) → Option Form → Option Record
+assigned ps o = readName (field 1 ps) >>= λ n. o >>= λ f. some (assign n f)
+
+-- two operands, in fields 2 and 3
+abbrev pub operands : (Term → Term → Form) → List (List ℕ) → Option Form
+operands f ps = readTerm (field 2 ps) >>= λ a. readTerm (field 3 ps) >>= λ b. some (f a b)
+
+-- the record that the pieces of a line make, its word known
+unfoldable pub recordFor : Word → List (List ℕ) → Option Record
+recordFor Shares ps = fields 1 ps (readCount (field 1 ps) >>= λ k. some (shares k))
+recordFor Map ps =
+    fields (2 + columnCount) ps
+    (readPlain (field 1 ps) >>= λ n. readHex (field 2 ps) >>= λ c. each readHex (drop 3 ps) >>= λ l. some (map n c l))
+recordFor Input ps = fields 1 ps (readPlain (field 1 ps) >>= λ n. some (input n))
+recordFor Origin ps = fields 0 ps (some origin)
+recordFor Set ps = fields 2 ps (assigned ps (readTerm (field 2 ps) >>= λ a. some (set a)))
+recordFor Xor ps = fields 3 ps (assigned ps (operands xor ps))
+recordFor Mul ps = fields 3 ps (assigned ps (operands mul ps))
+recordFor App ps =
+    fields 3 ps (assigned ps (readPlain (field 2 ps) >>= λ f. readTerm (field 3 ps) >>= λ a. some (app f a)))
+recordFor Rand ps = fields 1 ps (assigned ps (some rand))
+recordFor Result ps = fields 1 ps (readName (field 1 ps) >>= λ n. some (result n))
+recordFor Masked ps = fields 0 ps (some masked)
+recordFor Output ps =
+    cond (within 2 (mostShares + 1) (length ps)) (each readName (drop 1 ps) >>= λ ns. some (output ns)) none
+recordFor Unknown ps = none

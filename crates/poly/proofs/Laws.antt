@@ -1,0 +1,17 @@
+pub mod Algebra
+pub mod Power
+pub mod Order
+pub mod Normal
+pub mod Value
+pub mod Reduced
+pub mod Sum
+pub mod Size
+pub mod Roots
+pub mod Rows
+pub mod First
+pub mod Least
+pub mod Unique
+pub mod Slots
+pub mod Put
+pub mod Pass
+pub mod Map

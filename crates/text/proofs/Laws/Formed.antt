@@ -1,0 +1,214 @@
+-- THEOREM: the routine of every accepted text is well formed.
+-- Assumes nothing.
+use mathlib.Core.Path.{_≡_, refl, ap, subst}
+use Prim.Native.Nat.{ℕ, _+_, _*_, _≤_}
+use native.Mathlib.Omega.{arith}
+use native.Mathlib.Nat.{zero-mul}
+use mathlib.Core.Bool.{Bool, true, false, _||_, cond}
+use mathlib.Core.List.{List, [], _∷_, _++_}
+use mathlib.Core.Option.{none}
+use lib.Dec.{ltb, eqb}
+use borrow.Author.Tests.{ltb-false}
+use Rattle.grammar.specs.declared.word.Word.{Word}
+use Rattle.grammar.specs.declared.word.Word.the-variants.{Shares, Map, Input, Origin, Set, Xor, Mul, App, Rand}
+use Rattle.grammar.specs.declared.word.Word.the-variants.{Result, Masked, Output, Unknown}
+use Rattle.text.specs.declared.types.Statement.{Statement}
+use Rattle.grammar.specs.Token.{Name, Term, name, byte}
+use Rattle.grammar.specs.Record.{Form, set, xor, mul, app, rand, Record, shares, origin, assign}
+use Rattle.grammar.specs.Record.{masked}
+use Rattle.text.specs.Order.{atStart, inMasked, mayStand, stageAfter}
+use Rattle.text.specs.State.{State, start}
+use Rattle.text.specs.Grown.{atStage, withShares, withMap, withInput, withOrigin, withMasked}
+use Rattle.text.specs.Grown.{withResult, withOutputs}
+use Rattle.text.specs.Scope.{block, drawn, statementCount, exceeds}
+use Rattle.text.specs.Limits.{mostVariables, mostInputs, mostStatements}
+use Rattle.text.specs.Scope.{operandIn, opIn, added}
+use Rattle.text.specs.Read.{routine, readText}
+use Rattle.text.specs.Formed.{Each, FormedOperand, FormedOp, FormedStatement, FormedMap, Formed}
+use Rattle.text.proofs.Laws.Keeping.{Accepts, read-keeps}
+use Rattle.grammar.proofs.Laws.Fits.{FormedTerm, Fits, fit-shares, fit-map, fit-input, fit-origin, fit-set}
+use Rattle.grammar.proofs.Laws.Fits.{fit-xor, fit-mul, fit-app, fit-rand, fit-result, fit-masked, fit-output}
+
+each-more : {X : Type 0} (P : X → Type 0) (xs : List X) (x : X) → Each P xs → P x → Each P (xs ++ x ∷ [])
+each-more P [] x h k = (k, tt)
+each-more P (y ∷ ys) x h k = (h .0, each-more P ys x (h .1) k)
+
+or-false : (a b : Bool) → a || b ≡ false → b ≡ false
+or-false true b h = let z : _≡_ {A = ℕ} 0 1 = cc in absurd (omega arith)
+or-false false b h = h
+
+false-true : {A : Type 0} → false ≡ true → A
+false-true h = let z : _≡_ {A = ℕ} 0 1 = cc in absurd (omega arith)
+
+-- ---- what every line keeps
+
+record Kept (s : State) : Type 0 where
+  maps : Each FormedMap (s .maps)
+  origin : Each FormedStatement (s .origin .statements)
+  masked : Each FormedStatement (s .masked .statements)
+  fits : s .inputs * s .shares ≤ s .variables
+  room : s .variables ≤ mostVariables
+  begun : s .stage ≡ atStart → s .inputs ≡ 0
+
+start-kept : Kept start
+unfolding start
+start-kept = record { maps = tt; origin = tt; masked = tt; fits = omega arith; room = omega arith; begun = λ e. refl }
+
+-- no record leads back to the start
+moves : (w : Word) (stage : ℕ) → mayStand w stage ≡ true → stageAfter w stage ≡ atStart → ⊥
+moves Shares stage m e = omega arith
+moves Map stage m e = omega arith
+moves Input stage m e = omega arith
+moves Origin stage m e = omega arith
+moves Set stage m e = false-true (subst (λ (k : ℕ). mayStand Set k ≡ true) e m)
+moves Xor stage m e = false-true (subst (λ (k : ℕ). mayStand Xor k ≡ true) e m)
+moves Mul stage m e = false-true (subst (λ (k : ℕ). mayStand Mul k ≡ true) e m)
+moves App stage m e = false-true (subst (λ (k : ℕ). mayStand App k ≡ true) e m)
+moves Rand stage m e = false-true (subst (λ (k : ℕ). mayStand Rand k ≡ true) e m)
+moves Result stage m e = omega arith
+moves Masked stage m e = omega arith
+moves Output stage m e = omega arith
+moves Unknown stage m e = false-true m
+
+operand-formed : (ms : List Name) (a : Term) → FormedTerm a → FormedOperand (operandIn ms a)
+unfolding operandIn
+operand-formed ms (name n) h = tt
+operand-formed ms (byte b) h = h
+
+-- what a form's operands have to be
+abbrev FormedForm : Form → Type 0
+FormedForm (set a) = FormedTerm a
+FormedForm (xor a b) = FormedTerm a × FormedTerm b
+FormedForm (mul a b) = FormedTerm a × FormedTerm b
+FormedForm (app f a) = FormedTerm a
+FormedForm rand = Unit {0}
+
+op-formed : (ms maps : List Name) (v : ℕ) (f : Form) → FormedForm f → FormedOp (opIn ms maps v f)
+unfolding opIn
+op-formed ms maps v (set a) h = operand-formed ms a h
+op-formed ms maps v (xor a b) h = (operand-formed ms a (h .0), operand-formed ms b (h .1))
+op-formed ms maps v (mul a b) h = (operand-formed ms a (h .0), operand-formed ms b (h .1))
+op-formed ms maps v (app f a) h = operand-formed ms a h
+op-formed ms maps v rand h = tt
+
+module _ (s : State) (K : Kept s) (n stage : ℕ) (moved : stage ≡ atStart → ⊥) where
+  -- nothing but the stage, or the result or the outputs, is new
+  same-kept : Kept (atStage stage s)
+  unfolding atStage
+  same-kept = record {
+    maps = K .maps;
+    origin = K .origin;
+    masked = K .masked;
+    fits = K .fits;
+    room = K .room;
+    begun = λ e.
+        absurd (moved e);
+  }
+
+  assign-kept : (x : Name) (f : Form) → FormedForm f → exceeds s (assign x f) ≡ false
+      → Kept (atStage stage (added n (assign x f) s))
+  unfolding atStage added exceeds withMasked withOrigin
+  assign-kept x f h e = go (eqb (s .stage) inMasked)
+    where
+      st : Statement
+      st = record { op = opIn (block s .names) (s .mapNames) (s .variables) f; line = n }
+
+      formed : FormedStatement st
+      formed = op-formed (block s .names) (s .mapNames) (s .variables) f h
+
+      bound : s .variables + drawn f ≤ mostVariables
+      bound =
+          ltb-false mostVariables (s .variables + drawn f)
+          (or-false (ltb mostStatements (statementCount s + 1)) (ltb mostVariables (s .variables + drawn f)) e)
+
+      go : (b : Bool) → Kept (atStage stage (cond b (withMasked (drawn f) x st s) (withOrigin x st s)))
+      go true = record {
+        maps = K .maps;
+        origin = K .origin;
+        masked = each-more FormedStatement (s .masked .statements) st (K .masked)
+            formed;
+        fits = omega (arith, K .fits);
+        room = bound;
+        begun = λ e. absurd (moved e);
+      }
+      go false = record {
+        maps = K .maps;
+        origin = each-more FormedStatement (s .origin .statements) st (K .origin) formed;
+        masked =
+            K .masked;
+        fits = K .fits;
+        room = K .room;
+        begun = λ e. absurd (moved e);
+      }
+
+-- a record that may stand and exceeds nothing
+added-kept : (s : State) → Kept s → (n : ℕ) {w : Word} {r : Record} → Fits w r → mayStand w (s .stage) ≡ true
+    → exceeds s r ≡ false
+    → Kept (atStage (stageAfter w (s .stage)) (added n r s))
+unfolding atStage added exceeds withShares withMap withInput withResult withOutputs
+added-kept s K n (fit-shares {k = k} low high) m e =
+    let none : s .inputs ≡ 0 = K .begun (eqb-start (s .stage) m) in
+    record {
+      maps = K .maps;
+      origin = K .origin;
+      masked = K .masked;
+      fits = omega (arith, ap (λ (i : ℕ). i * k) none, zero-mul k);
+      room = K .room;
+      begun = λ e. omega arith;
+    }
+  where
+    eqb-start : (stage : ℕ) → eqb stage atStart ≡ true → stage ≡ atStart
+    eqb-start stage t = borrow.Author.Tests.eqb-true stage atStart t
+added-kept s K n (fit-map {c = c} {l = l} h e8 hl) m e = record {
+  maps = each-more FormedMap (s .maps) (record { constant = c; columns = l }) (K .maps)
+      (record { constant = h; eight = e8; columns = hl });
+  origin = K .origin;
+  masked = K .masked;
+  fits = K .fits;
+  room = K .room;
+  begun = λ e. omega arith;
+}
+added-kept s K n (fit-input {n = x}) m e =
+    let bound = ltb-false mostVariables (s .variables + s .shares)
+    (or-false (ltb mostInputs (s .inputs + 1)) (ltb mostVariables (s .variables + s .shares)) e) in
+    record {
+      maps = K .maps;
+      origin = K .origin;
+      masked = K .masked;
+      fits = omega (arith, K .fits);
+      room = bound;
+      begun = λ e. omega arith;
+    }
+added-kept s K n fit-origin m e = same-kept s K n (stageAfter Origin (s .stage)) (moves Origin (s .stage) m)
+added-kept s K n (fit-set {n = x} {a = a} h) m e = assign-kept s K n (s .stage) (moves Set (s .stage) m) x (set a) h e
+added-kept s K n (fit-xor {n = x} {a = a} {b = b} h k) m e = assign-kept s K n (s .stage) (moves Xor (s .stage) m) x
+    (xor a b) (h, k) e
+added-kept s K n (fit-mul {n = x} {a = a} {b = b} h k) m e = assign-kept s K n (s .stage) (moves Mul (s .stage) m) x
+    (mul a b) (h, k) e
+added-kept s K n (fit-app {n = x} {f = f} {a = a} h) m e = assign-kept s K n (s .stage) (moves App (s .stage) m) x
+    (app f a) h e
+added-kept s K n (fit-rand {n = x}) m e = assign-kept s K n (s .stage) (moves Rand (s .stage) m) x rand tt e
+added-kept s K n fit-result m e = record {
+  maps = K .maps;
+  origin = K .origin;
+  masked = K .masked;
+  fits = K .fits;
+  room = K .room;
+  begun = λ e. omega arith;
+}
+added-kept s K n fit-masked m e = same-kept s K n (stageAfter Masked (s .stage)) (moves Masked (s .stage) m)
+added-kept s K n fit-output m e = record {
+  maps = K .maps;
+  origin = K .origin;
+  masked = K .masked;
+  fits = K .fits;
+  room = K .room;
+  begun = λ e. omega arith;
+}
+
+-- THEOREM
+pub read-formed : (text : List ℕ) → Accepts Formed (readText text)
+unfolding routine
+read-formed =
+    read-keeps Kept Formed start-kept (λ s K n w r f p. added-kept s K n f (p .stands) (p .within))
+    (λ s K n e. record { maps = K .maps; origin = K .origin; masked = K .masked; fits = K .fits; room = K .room })

@@ -1,0 +1,78 @@
+-- The walk over the lines by the code's steps. Assumes nothing.
+use Prim.Native.Nat.{ℕ, zero, suc, _+_, _-_, _≤_}
+use native.Mathlib.Omega.{arith}
+use mathlib.Core.Path.{_≡_, refl, sym, _∙_, ap}
+use mathlib.Core.Bool.{cond}
+use mathlib.Core.List.{List}
+use lib.Dec.{eqb}
+use lib.ListN.{length, take, drop, length-drop}
+use lib.Seq.{take-all}
+use Rattle.grammar.specs.declared.line.Line.{Line}
+use Rattle.grammar.specs.declared.cursor.Cursor.{Cursor}
+use Rattle.grammar.specs.declared.cursor.Ahead.{Ahead}
+use Rattle.grammar.specs.declared.cursor.Ahead.the-variants as Ahead
+use Rattle.text.specs.declared.known.Known.{Known}
+use Rattle.text.specs.declared.step.Step.{Step}
+use Rattle.grammar.specs.Ascii.{lineFeed, all, allowed}
+use Rattle.grammar.specs.Split.{pieces}
+use Rattle.text.specs.Order.{atEnd}
+use Rattle.text.specs.State.{State}
+use Rattle.grammar.specs.Cursor.{lineEnd, lookAt}
+use Rattle.grammar.proofs.Laws.Ahead.{look-line, look-unended, look-end, end-at}
+use Rattle.text.specs.Read.{Reading, refused, accepted, stop, unless, takeLine, takeLines, routine}
+use Rattle.text.specs.Known.{stateIn}
+use Rattle.text.specs.Taken.{outcomeIn}
+use Rattle.text.proofs.Laws.Lines.{line-stops, line-goes, text-ends, line-unended}
+
+-- ---- the walk
+
+stop-at : (e : ℕ) (x : State) → (e ≡ 0 → ⊥) → unless e x ≡ stop e
+unfolding unless
+stop-at zero x h = absurd (h refl)
+stop-at (suc e) x h = refl
+
+module _ (s : List ℕ) (k : Known) (c : Cursor) {x : Reading}
+    (i : x ≡ takeLines (stateIn s k) (c .line) (pieces lineFeed (drop (c .at) s))) where
+  module _ (l : Line) (n : Cursor) (a : Ahead.Line l n ≡ lookAt s c) (r : Step)
+      (t : outcomeIn s r ≡ takeLine (stateIn s k) (n .line) (take (l .len) (drop (l .from) s))) where
+    here : outcomeIn s r ≡ takeLine (stateIn s k) (c .line + 1) (take (lineEnd s (c .at) - c .at) (drop (c .at) s))
+    here =
+        let L = look-line s c l n a in
+        t ∙ (λ j. takeLine (stateIn s k) (L .2 j .line) (take (L .1 j .len) (drop (L .1 j .from) s)))
+
+    -- a line is refused
+    pub line-refused : (r .refusal ≡ 0 → ⊥) → refused (r .refusal) (n .line) ≡ x
+    unfolding outcomeIn
+    line-refused z =
+        let L = look-line s c l n a in
+        ap (λ (m : Cursor). refused (r .refusal) (m .line)) (L .2)
+        ∙ line-stops (stateIn s k) (c .line) s (c .at) (lineEnd s (c .at)) (end-at s (c .at)) i (r .refusal) (L .0)
+        (sym here ∙ stop-at (r .refusal) (stateIn s (r .known)) z)
+
+    -- a line is taken
+    pub line-taken : r .refusal ≡ 0 → x ≡ takeLines (stateIn s (r .known)) (n .line) (pieces lineFeed (drop (n .at) s))
+    unfolding outcomeIn unless
+    line-taken z =
+        let L = look-line s c l n a in
+        line-goes (stateIn s k) (c .line) s (c .at) (lineEnd s (c .at)) (end-at s (c .at)) i (stateIn s (r .known))
+        (L .0)
+        (sym here ∙ ap (λ (e : ℕ). unless e (stateIn s (r .known))) z)
+        ∙ (λ j. takeLines (stateIn s (r .known)) (sym (L .2) j .line) (pieces lineFeed (drop (sym (L .2) j .at) s)))
+
+  -- the last line lacks its line feed
+  pub text-unended : (l : Line) → Ahead.Unended l ≡ lookAt s c
+      → refused (cond (all allowed (take (l .len) (drop (l .from) s))) 4 3) (c .line + 1) ≡ x
+  text-unended l a =
+      let L = look-unended s c l a in
+      let size : length (drop (c .at) s) ≤ length s - c .at = omega (arith, length-drop (c .at) s) in
+      ap (λ (m : Line). refused (cond (all allowed (take (m .len) (drop (m .from) s))) 4 3) (c .line + 1)) (L .2)
+      ∙ ap (λ (m : List ℕ). refused (cond (all allowed m) 4 3) (c .line + 1))
+      (take-all (length s - c .at) (drop (c .at) s) size)
+      ∙ sym (line-unended (stateIn s k) (c .line) s (c .at) (lineEnd s (c .at)) (end-at s (c .at)) i (L .1) (L .0))
+
+  -- the text ends
+  pub text-ended : c .at ≤ length s → Ahead.End ≡ lookAt s c
+      → cond (eqb (k .stage) atEnd) (accepted (routine (stateIn s k) (c .line))) (refused 6 (c .line + 1)) ≡ x
+  unfolding stateIn
+  text-ended h a = sym (text-ends (stateIn s k) (c .line) s (c .at) (lineEnd s (c .at)) (end-at s (c .at)) i h
+      (look-end s c a))

@@ -1,0 +1,3 @@
+pub mod Examples
+pub mod Laws
+pub mod Unique

@@ -1,0 +1,67 @@
+-- Its name and constant are read, or it is refusal 5. Assumes nothing.
+use mathlib.Core.Path.{subst}
+use Rattle.text.specs.Taken.{Took}
+use Rattle.grammar.specs.Recorded.{recordIn}
+use Rattle.grammar.specs.Line.{piecesIn}
+use Rattle.text.proofs.Laws.Taking.{took-bad}
+use Rattle.grammar.specs.declared.record.Rec.the-variants as rec
+use mathlib.Core.Path.{sym}
+use borrow.Author.Needs.{needs}
+use Rattle.text.proofs.declare.take_map.Statement.{statement}
+use Rattle.text.proofs.declare.take_map.Tie as tie
+
+enum-known-x : tie.Need-enum-known-x
+enum-known-x c = search needs
+
+enum-known-constant : tie.Need-enum-known-constant
+enum-known-constant c = search needs
+
+take-columns-requires : tie.Need-take-columns-requires
+take-columns-requires c κs = search needs
+
+enum-told : tie.Need-enum-told
+enum-told c = search needs
+
+enum-told-2 : tie.Need-enum-told-2
+enum-told-2 c = search needs
+
+returns : tie.Need-returns
+unfolding recordIn
+returns c = λ n.
+    let d = c .before .before .before .before .before .before .before .before in
+    let s = d .args .s .now in
+    let ps = piecesIn s (d .args .l) in
+    subst (λ o. Took s (d .args .k) n (d .args .stands) o (c .take-columns .result))
+    (λ i. recordIn s ps (rec.Map (sym (c .before .before .before .before .before .x .given .1) i)
+    (sym (c .before .before .constant .given .1) i))) (c .take-columns .ensures n)
+
+returns-2 : tie.Need-returns-2
+unfolding recordIn
+returns-2 c = λ n.
+    let d = c .before .before .before .before .before .before in
+    let s = d .args .s .now in
+    let ps = piecesIn s (d .args .l) in
+    took-bad s (d .args .k) (d .pre .1) n (d .args .stands)
+    (λ i. recordIn s ps (rec.Map (sym (c .before .before .before .x .given .1) i) (sym (c .enum-told .given .1) i)))
+
+returns-3 : tie.Need-returns-3
+unfolding recordIn
+returns-3 c = λ n.
+    let d = c .before .before .before in
+    let s = d .args .s .now in
+    let ps = piecesIn s (d .args .l) in
+    took-bad s (d .args .k) (d .pre .1) n (d .args .stands)
+    (λ i. recordIn s ps (rec.Map (sym (c .enum-told2 .given .1) i) (d .args .constant)))
+
+pub take-map-spec : {M : Type 1} → statement M
+take-map-spec =
+    tie.close
+    (tie.spec
+    enum-known-x
+    enum-known-constant
+    take-columns-requires
+    enum-told
+    enum-told-2
+    returns
+    returns-2
+    returns-3)

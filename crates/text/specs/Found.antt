@@ -1,0 +1,82 @@
+-- What the names that a statement reads are found to be in the sets above it. Assumes nothing.
+use Prim.Native.Nat.{ℕ, _≤_}
+use mathlib.Core.Path.{_≡_}
+use mathlib.Core.Bool.{Bool, true, false, cond, _&&_, _||_}
+use mathlib.Core.List.{List, map}
+use lib.ListN.{take}
+use mathlib.Core.Option.{Option, none, some}
+use Rattle.text.specs.declared.types.Operand.{Operand}
+use Rattle.text.specs.declared.types.Operand.the-variants.{Byte}
+use Rattle.text.specs.declared.types.Op.{Op}
+use Rattle.text.specs.declared.types.Op.the-variants as Op
+use Rattle.text.specs.declared.names.Names.{Names}
+use Rattle.text.specs.declared.scope.NameFound.{NameFound}
+use Rattle.text.specs.declared.scope.TermFound.{TermFound}
+use Rattle.text.specs.declared.scope.TwoFound.{TwoFound}
+use Rattle.text.specs.declared.scope.MapFound.{MapFound}
+use Rattle.text.specs.declared.scope.FormFound.{FormFound}
+use Rattle.grammar.specs.declared.record.FormRead.{FormRead}
+use Rattle.grammar.specs.declared.record.Binary.{Binary}
+use Rattle.grammar.specs.declared.record.Binary.the-variants as Binary
+use Rattle.grammar.specs.Token.{Name, Term}
+use Rattle.grammar.specs.Record.{Form}
+use Rattle.text.specs.Scope.{placeOf, missing, unknownTerm, operandIn, unknownForm, opIn, drawn}
+use Rattle.grammar.specs.Line.{termAt}
+use Rattle.grammar.specs.declared.line.TermRead.{TermRead}
+use Rattle.grammar.specs.Ascii.{any}
+use Rattle.grammar.specs.Recorded.{formAt, namesRead}
+use Rattle.grammar.specs.declared.lists.Outputs.{Outputs}
+use Rattle.text.specs.declared.outputs.PlacesFound.{PlacesFound}
+use Rattle.text.specs.Names.{namesIn}
+
+-- a name among the names ms: whether it is not given, and its place
+unfoldable pub nameFound : List Name → Name → NameFound
+nameFound ms x = record { unknown = missing ms x; place = placeOf x ms }
+
+-- an operand among the names ms
+unfoldable pub termFound : List Name → Option Term → TermFound
+termFound ms none = record { ok = false; unknown = false; operand = Byte 0 }
+termFound ms (some x) = record { ok = true; unknown = unknownTerm ms x; operand = operandIn ms x }
+
+-- two operands
+unfoldable pub twoFound : TermFound → TermFound → TwoFound
+twoFound x y =
+    record { ok = x .ok && y .ok; unknown = x .unknown || y .unknown; left = x .operand; right = y .operand }
+
+-- the whole outcome of looking two operands up in the set t
+abbrev pub TwoIs : List ℕ → Names → TermRead → TermRead → TwoFound → Type 0
+TwoIs s t a b r =
+    let ms = namesIn s t in r ≡ twoFound (termFound ms (termAt s a)) (termFound ms (termAt s b))
+
+-- the operation on two operands, by places
+abbrev pub joined : Binary → Operand → Operand → Op
+joined Binary.Xor = Op.Xor
+joined Binary.Mul = Op.Mul
+
+-- a map among the names ms
+unfoldable pub mapFound : List Name → Option Name → MapFound
+mapFound ms none = record { ok = false; unknown = false; place = 0 }
+mapFound ms (some x) = record { ok = true; unknown = missing ms x; place = placeOf x ms }
+
+-- whether it reads what is not given, what it is by places, and the variables that it draws
+abbrev pub Told : Type 0
+Told = Bool × Op × ℕ
+
+-- what is told of a form, or none
+unfoldable pub formTold : List Name → List Name → ℕ → Option Form → Option Told
+formTold ms maps v none = none
+formTold ms maps v (some y) = some (unknownForm ms maps y, opIn ms maps v y, drawn y)
+
+-- what the code tells of a form, or none
+unfoldable pub toldIn : FormFound → Option Told
+toldIn r = cond (r .ok) (some (r .unknown, r .op, r .drawn)) none
+
+-- the whole outcome of looking a form up in the sets t and maps; v is the next variable
+pub record FormIs (s : List ℕ) (t maps : Names) (v : ℕ) (f : FormRead) (r : FormFound) : Type 0 where
+  pub few : r .drawn ≤ 1
+  pub told : toldIn r ≡ formTold (namesIn s t) (namesIn s maps) v (formAt s f)
+
+-- the whole outcome of looking the names of an output line up in the set t
+pub record PlacesAre (s : List ℕ) (t : Names) (o : Outputs) (r : PlacesFound) : Type 0 where
+  pub unknown : r .unknown ≡ any (missing (namesIn s t)) (namesRead s o)
+  pub places : take (o .count) (r .places) ≡ map (λ x. placeOf x (namesIn s t)) (namesRead s o)

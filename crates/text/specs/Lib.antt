@@ -1,0 +1,15 @@
+pub mod Limits
+pub mod Order
+pub mod State
+pub mod Grown
+pub mod Scope
+pub mod Read
+pub mod Names
+pub mod Routine
+pub mod Known
+pub mod Found
+pub mod Taken
+pub mod Reading
+pub mod Formed
+pub mod Ranged
+pub mod Open

@@ -1,0 +1,62 @@
+// A statement.
+use crate::known;
+use crate::known::Known;
+use crate::scope;
+use crate::step::Step;
+use crate::step::first_fault;
+use crate::types::Statement;
+use grammar::line::NameRead;
+use grammar::line::NameRef;
+use grammar::record::FormRead;
+ghost use mathlib.Core.Path.{_≡_};
+ghost use mathlib.Core.Bool.{true};
+ghost use Prim.Native.Nat.{_≤_};
+ghost use Rattle.text.specs.Order.{inMasked};
+ghost use Rattle.text.specs.Known.{Sound};
+ghost use Rattle.text.specs.Taken.{TookForm, TookStatement};
+
+// A statement.
+pub fn take_statement(s: &[u8], k: Known, n: usize, x: NameRead, f: FormRead, stands: bool) -> Step
+    requires { ⌜ (Sound k) × (stands ≡ true → k .stage ≤ inMasked) ⌝ }
+    ensures { λ r. ⌜ TookStatement (now (s .entry)) k n stands x f r ⌝ }
+{
+    match x {
+        NameRead::Name(m) => take_form(s, k, n, m, f, stands),
+        NameRead::Bad => Step {
+            refusal: 5,
+            known: k,
+        },
+    }
+}
+
+// A statement that gives x; n is its line.
+pub fn take_form(s: &[u8], k: Known, n: usize, x: NameRef, f: FormRead, stands: bool) -> Step
+    requires { ⌜ (Sound k) × (stands ≡ true → k .stage ≤ inMasked) ⌝ }
+    ensures { λ r. ⌜ TookForm (now (s .entry)) k n stands x f r ⌝ }
+{
+    let set = known::block_names(k);
+    let routine = k.routine;
+    let form = scope::find_form(s, set, k.maps, routine.variables, f);
+    if form.ok {
+        let given = scope::is_given(s, set, x);
+        let many = known::is_crowded(k, form.drawn);
+        let e = first_fault(stands, given, form.unknown, many, false);
+        if e != 0 {
+            return Step {
+                refusal: e,
+                known: k,
+            };
+        }
+        let op = form.op;
+        let st = Statement { op, line: n };
+        let next = known::with_statement(k, form.drawn, x, st);
+        return Step {
+            refusal: 0,
+            known: next,
+        };
+    }
+    Step {
+        refusal: 5,
+        known: k,
+    }
+}
