@@ -1,8 +1,17 @@
-// Runs the published tables and examples and prints what comes out, one case to a line.
+// Runs the published tables and the stored texts and prints what comes out, one case to a line. The
+// texts come from standard input; the first is that of the S-box.
+mod cases;
+mod lists;
+mod sbox;
 mod show;
 mod tables;
 
 fn main() {
+    let mut input = [0u8; 524288];
+    let n = io::read_full(libc::STDIN_FILENO, &mut input);
     tables::print_sbox();
     tables::print_coefficients();
+    sbox::print_run(&input[..n]);
+    lists::print_lists(&input[..n]);
+    cases::print_cases(&input[..n]);
 }

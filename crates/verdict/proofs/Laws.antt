@@ -1,0 +1,14 @@
+pub mod Lists
+pub mod Meaning
+pub mod Closed
+pub mod Value
+pub mod Count
+pub mod Steps
+pub mod Bytes
+pub mod Definition
+pub mod Buffers
+pub mod Parts
+pub mod Turns
+pub mod Ran
+pub mod Begins
+pub mod Numbers

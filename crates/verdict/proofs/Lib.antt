@@ -1,0 +1,11 @@
+pub mod Laws
+pub mod Verdict
+pub mod Count
+pub mod Room
+pub mod Text
+pub mod Promises
+pub mod Lent
+pub mod Runs
+pub mod Pairing
+pub mod Unique
+pub mod Examples

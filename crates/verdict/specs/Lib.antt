@@ -1,0 +1,14 @@
+pub mod Lists
+pub mod Meaning
+pub mod Instances
+pub mod Equivalent
+pub mod Count
+pub mod Idle
+pub mod Judge
+pub mod Run
+pub mod Coefficients
+pub mod Verdict
+pub mod Print
+pub mod Examples
+pub mod Open
+pub mod Block

@@ -1,0 +1,51 @@
+-- The line that the program prints ("What judge answers", last paragraph).
+-- Assumes nothing.
+use Prim.Native.Nat.{ℕ, zero, suc, _+_, _/_, _%_}
+use mathlib.Core.Bool.{cond}
+use mathlib.Core.List.{List, [], _∷_, _++_}
+use lib.Dec.{ltb}
+use Rattle.grammar.specs.Ascii.{ascii, tab, lineFeed}
+use Rattle.verdict.specs.declared.report.Verdict.{Verdict}
+use Rattle.verdict.specs.declared.report.Verdict.the-variants.{Equal, Differs, Unknown, Refused}
+use Rattle.verdict.specs.Judge.{Outcome, refused, equal, differs, unknown, report}
+
+-- a verdict's word
+unfoldable pub word : Verdict → List ℕ
+word Equal = ascii "equal"
+word Differs = ascii "differs"
+word Unknown = ascii "unknown"
+word Refused = ascii "refused"
+
+-- at most k decimal digits of n, in front of what follows
+unfoldable pub digits : ℕ → ℕ → List ℕ → List ℕ
+digits zero n rest = rest
+digits (suc k) n rest =
+    let more = digits k (n / 10) ((48 + n % 10) ∷ rest) in
+    cond (ltb n 10) ((48 + n) ∷ rest) more
+
+-- a number below 10^20, in decimal
+unfoldable pub decimal : ℕ → List ℕ
+decimal n = digits 20 n []
+
+-- a lower-case hex digit
+unfoldable pub hexDigit : ℕ → ℕ
+hexDigit d = cond (ltb d 10) (48 + d) (87 + d)
+
+-- each byte as two hex digits behind a tab
+unfoldable pub hexes : List ℕ → List ℕ
+hexes [] = []
+hexes (b ∷ bs) = tab ∷ hexDigit (b / 16) ∷ hexDigit (b % 16) ∷ hexes bs
+
+-- the bytes that differs lists
+unfoldable pub listedBytes : Outcome → List ℕ
+listedBytes (refused number line) = []
+listedBytes (equal i) = []
+listedBytes (differs n i bs) = bs
+listedBytes (unknown line i) = []
+
+-- verdict, refusal, line, terms, tried and idle, then the listed bytes
+unfoldable pub printed : Outcome → List ℕ
+printed o =
+    let r = report o in
+    word (r .verdict) ++ tab ∷ decimal (r .refusal) ++ tab ∷ decimal (r .line) ++ tab ∷ decimal (r .terms)
+    ++ tab ∷ decimal (r .tried) ++ tab ∷ decimal (r .idle) ++ hexes (listedBytes o) ++ lineFeed ∷ []

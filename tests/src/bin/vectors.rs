@@ -1,0 +1,130 @@
+//! Writes the cases that the program `vectors` reads and the lines that it must print. Each line
+//! comes from the independent judge; where a text has a stored line, both must agree.
+
+use bench_tests::examples::examples;
+use bench_tests::judge::judge;
+use bench_tests::texts::{faults, limits, standing};
+use std::fs;
+use std::io;
+use std::path::{Path, PathBuf};
+use std::process::ExitCode;
+
+/// How the program is called.
+const USAGE: &str = "usage: vectors --corpus FOLDER --out FOLDER";
+
+/// Longer texts of the corpus are left out: the limit of the length has its own cases.
+const LONGEST_STORED: u64 = 8_192;
+
+/// A text with its name, and the line stored beside it.
+struct Case {
+    name: String,
+    text: Vec<u8>,
+    stored: Option<String>,
+}
+
+/// The folders named on the command line.
+struct Folders {
+    corpus: PathBuf,
+    out: PathBuf,
+}
+
+fn main() -> ExitCode {
+    let Some(folders) = folders_of(std::env::args().skip(1).collect()) else {
+        eprintln!("{USAGE}");
+        return ExitCode::from(2);
+    };
+    match write_all(&folders) {
+        Ok(0) => ExitCode::SUCCESS,
+        Ok(_) => ExitCode::FAILURE,
+        Err(error) => {
+            eprintln!("vectors: {error}");
+            ExitCode::from(2)
+        }
+    }
+}
+
+/// The folders, where both are named.
+fn folders_of(words: Vec<String>) -> Option<Folders> {
+    let value = |flag: &str| {
+        let at = words.iter().position(|word| word == flag)?;
+        words.get(at + 1).map(PathBuf::from)
+    };
+    let corpus = value("--corpus")?;
+    let out = value("--out")?;
+    (words.len() == 4).then_some(Folders { corpus, out })
+}
+
+/// Writes both files; answers how many stored lines disagree with the judge.
+fn write_all(folders: &Folders) -> io::Result<usize> {
+    let mut cases = written_cases();
+    for folder in ["gadgets", "damaged"] {
+        cases.extend(stored_cases(&folders.corpus, folder)?);
+    }
+    let (mut texts, mut lines, mut wrong) = (vec![], String::new(), 0);
+    for case in &cases {
+        let line = judge(&case.text).line();
+        if case.stored.as_ref().is_some_and(|stored| *stored != line) {
+            eprint!("{}: judged {line}", case.name);
+            wrong += 1;
+        }
+        let header = format!("{}\t{}\n", case.name, case.text.len());
+        texts.extend_from_slice(header.as_bytes());
+        texts.extend_from_slice(&case.text);
+        texts.push(b'\n');
+        lines.push_str(&format!("{}\t{line}", case.name));
+    }
+    fs::create_dir_all(&folders.out)?;
+    fs::write(folders.out.join("cases"), &texts)?;
+    fs::write(folders.out.join("lines"), lines)?;
+    let stored = cases.iter().filter(|case| case.stored.is_some()).count();
+    println!(
+        "{} cases, {} bytes; {stored} stored lines, {wrong} of them disagree",
+        cases.len(),
+        texts.len(),
+    );
+    Ok(wrong)
+}
+
+/// The examples, the limits and the faults.
+fn written_cases() -> Vec<Case> {
+    let examples = examples()
+        .into_iter()
+        .map(|example| (example.name.to_string(), example.text));
+    let pairs = faults::pairs()
+        .into_iter()
+        .map(|(name, text, _)| (name, text));
+    examples
+        .chain(limits::both_sides())
+        .chain(standing::both_sides())
+        .chain(faults::short_texts())
+        .chain(pairs)
+        .chain(faults::every_byte())
+        .map(|(name, text)| Case {
+            name,
+            text,
+            stored: None,
+        })
+        .collect()
+}
+
+/// The texts of a folder of the corpus in the order of their names, with their stored lines.
+fn stored_cases(corpus: &Path, folder: &str) -> io::Result<Vec<Case>> {
+    let mut paths = vec![];
+    for entry in fs::read_dir(corpus.join(folder))? {
+        let path = entry?.path();
+        let short = fs::metadata(&path)?.len() <= LONGEST_STORED;
+        if short && path.extension().is_some_and(|end| end == "txt") {
+            paths.push(path);
+        }
+    }
+    paths.sort();
+    let case = |path: PathBuf| {
+        let stem = path.file_stem().unwrap_or_default().to_string_lossy();
+        Ok(Case {
+            name: format!("{folder}_{stem}"),
+            text: fs::read(&path)?,
+            stored: fs::read_to_string(path.with_extension("line")).ok(),
+        })
+    };
+    paths.into_iter().map(case).collect()
+}

@@ -1,0 +1,104 @@
+//! The bench's own algorithm in plain Rust: values behind each other in one buffer, one term
+//! inserted at a time, bytes put in in place.
+
+mod field;
+mod line;
+mod names;
+mod read;
+mod routine;
+mod search;
+mod terms;
+mod values;
+
+use crate::compare::Side;
+use crate::report::{CoefficientsAnswer, Refusal, Report, RunAnswer, Verdict, WRONG_NUMBER};
+use field::AffineMap;
+use values::Values;
+
+/// Bytes that each work buffer needs.
+const WORK: usize = 65_280;
+/// Bytes that the byte list needs.
+const LIST: usize = 16;
+
+/// The plain version as a side of the comparison.
+pub struct Plain;
+
+impl Side for Plain {
+    fn judge(&self, text: &[u8], left: &mut [u8], right: &mut [u8], list: &mut [u8]) -> Report {
+        if left.len() < WORK || right.len() < WORK || list.len() < LIST {
+            return Report::refused(Refusal { number: 1, line: 0 });
+        }
+        let routine = match read::read(text) {
+            Ok(routine) => routine,
+            Err((number, line)) => return Report::refused(refusal(number, line)),
+        };
+        let report = judge_routine(&routine, left, right, list);
+        left[..WORK].fill(0);
+        right[..WORK].fill(0);
+        report
+    }
+
+    fn run(&self, text: &[u8], bytes: &[u8]) -> RunAnswer {
+        match read::read(text) {
+            Err((number, line)) => RunAnswer::refused(refusal(number, line)),
+            Ok(routine) if routine.variables != bytes.len() => RunAnswer::refused(WRONG_NUMBER),
+            Ok(routine) => RunAnswer::taken(routine.run(bytes)),
+        }
+    }
+
+    fn coefficients(&self, list: &[u8]) -> CoefficientsAnswer {
+        let mut answer = CoefficientsAnswer::default();
+        match list {
+            [constant, columns @ ..] if columns.len() == 8 => {
+                let mut map = AffineMap {
+                    constant: *constant,
+                    columns: [0; 8],
+                };
+                map.columns.copy_from_slice(columns);
+                answer.list = map.coefficients();
+            }
+            _ => answer.refusal = 12,
+        }
+        answer
+    }
+}
+
+/// A refusal by its number and line.
+fn refusal(number: u8, line: usize) -> Refusal {
+    Refusal {
+        number: number as u64,
+        line: line as u64,
+    }
+}
+
+/// Judges an accepted text's routine; the work buffers are used up.
+fn judge_routine(
+    routine: &routine::Routine,
+    left: &mut [u8],
+    right: &mut [u8],
+    list: &mut [u8],
+) -> Report {
+    let mut report = Report {
+        verdict: Verdict::Equal,
+        refusal: 0,
+        line: 0,
+        terms: 0,
+        tried: 0,
+        idle: routine.idle() as u64,
+    };
+    match Values::new(routine, left, right).difference() {
+        Err(line) => {
+            report.verdict = Verdict::Unknown;
+            report.line = line as u64;
+        }
+        Ok((_, 0)) => {}
+        Ok((start, k)) => {
+            let n = routine.variables;
+            report.verdict = Verdict::Differs;
+            report.terms = k as u64;
+            let tried = search::search(&mut left[start..], k, n + 1, &mut list[..n]);
+            report.tried = tried as u64;
+        }
+    }
+    report
+}

@@ -1,0 +1,69 @@
+//! The routine that an accepted text holds. Values are counted within each block: first those
+//! that the block begins with, then one for each statement.
+
+use crate::maps::Map;
+
+/// An operand: the place of a value in its block, or a byte.
+#[derive(Clone, Copy, Debug, PartialEq, Eq)]
+pub enum Source {
+    Value(usize),
+    Byte(u8),
+}
+
+/// What a statement does; a rand draws the variable of that number.
+#[derive(Clone, Copy, Debug, PartialEq, Eq)]
+pub enum Operation {
+    Set(Source),
+    Xor(Source, Source),
+    Mul(Source, Source),
+    App(usize, Source),
+    Rand(usize),
+}
+
+/// A statement and the line on which it stands.
+#[derive(Clone, Copy, Debug, PartialEq, Eq)]
+pub struct Statement {
+    pub line: u64,
+    pub operation: Operation,
+}
+
+/// What an accepted text holds.
+#[derive(Clone, Debug, Default, PartialEq, Eq)]
+pub struct Routine {
+    pub shares: usize,
+    pub maps: Vec<Map>,
+    pub inputs: usize,
+    pub variables: usize,
+    pub origin: Vec<Statement>,
+    pub result: usize,
+    pub masked: Vec<Statement>,
+    pub outputs: Vec<usize>,
+    pub output_line: u64,
+}
+
+impl Operation {
+    /// The operands that are read.
+    pub fn sources(&self) -> Vec<Source> {
+        match *self {
+            Operation::Set(a) | Operation::App(_, a) => vec![a],
+            Operation::Xor(a, b) | Operation::Mul(a, b) => vec![a, b],
+            Operation::Rand(_) => vec![],
+        }
+    }
+}
+
+impl Routine {
+    /// The number of inputs that no origin statement reads and result does not name.
+    pub fn idle(&self) -> usize {
+        let mut read = vec![false; self.inputs + self.origin.len()];
+        for statement in &self.origin {
+            for source in statement.operation.sources() {
+                if let Source::Value(at) = source {
+                    read[at] = true;
+                }
+            }
+        }
+        read[self.result] = true;
+        read[..self.inputs].iter().filter(|read| !**read).count()
+    }
+}

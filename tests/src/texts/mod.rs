@@ -1,0 +1,13 @@
+//! Texts to judge: the limits, faults that meet on one line, random gadgets and worst texts.
+
+pub mod damage;
+pub mod draft;
+pub mod faults;
+pub mod gadgets;
+pub mod limits;
+pub mod mix;
+pub mod names;
+pub mod pairing;
+pub mod roots;
+pub mod standing;
+pub mod worst;
