@@ -3,6 +3,7 @@ pub mod Computed
 pub mod Linear
 pub mod Product
 pub mod Ring
+pub mod Algebra
 pub mod Powers
 pub mod Modulus
 pub mod Sums

@@ -6,3 +6,6 @@ pub mod Each
 pub mod Fields
 pub mod Fits
 pub mod Ahead
+pub mod Handed
+pub mod Held
+pub mod Lines

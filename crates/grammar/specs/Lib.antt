@@ -8,4 +8,6 @@ pub mod Answer
 pub mod Line
 pub mod Recorded
 pub mod Cursor
+pub mod Reader
+pub mod Handed
 pub mod Open

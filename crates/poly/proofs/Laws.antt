@@ -1,4 +1,3 @@
-pub mod Algebra
 pub mod Power
 pub mod Order
 pub mod Normal

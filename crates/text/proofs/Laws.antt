@@ -12,6 +12,8 @@ pub mod Listing
 pub mod Leading
 pub mod Held
 pub mod Walk
+pub mod From
+pub mod Given
 pub mod Keeping
 pub mod Formed
 pub mod Reads

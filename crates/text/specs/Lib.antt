@@ -10,6 +10,7 @@ pub mod Known
 pub mod Found
 pub mod Taken
 pub mod Reading
+pub mod From
 pub mod Formed
 pub mod Ranged
 pub mod Open

@@ -11,9 +11,11 @@ use crate::take;
 use grammar::bytes;
 use grammar::cursor;
 use grammar::cursor::Ahead;
-use grammar::cursor::Cursor;
+use grammar::handed;
 use grammar::line;
 use grammar::line::Line;
+use grammar::reader;
+use grammar::reader::Reader;
 use grammar::record;
 use grammar::split;
 use grammar::word;
@@ -23,6 +25,7 @@ ghost use Prim.Native.Nat.{ℕ, _≤_};
 ghost use Rattle.grammar.specs.Line.{Inside};
 ghost use Rattle.text.specs.Limits.{mostBytes};
 ghost use Rattle.text.specs.Read.{readText};
+ghost use Rattle.text.specs.From.{readFrom, ReadsOn};
 ghost use Rattle.text.specs.Known.{Sound};
 ghost use Rattle.text.specs.Taken.{RecordLeads, LineLeads};
 ghost use Rattle.text.specs.Reading.{ReadingIs, EndIs, UnendedIs};
@@ -112,9 +115,23 @@ pub fn unended(s: &[u8], k: Known, l: Line, n: usize) -> Reading
     }
 }
 
-// The reading of a text of any length.
+// The reading of a text of any length: a reader is opened on it, and reads all of it.
 pub fn read(s: &[u8]) -> Reading
     ensures { λ r. ⌜ ReadingIs r (readText (now (s .entry))) ⌝ }
+{
+    read_all(reader::open(s))
+}
+
+// The reading of the lines from a reader on.
+pub fn read_all<'a>(r: Reader<'a>) -> Reading
+    ensures { λ d. ⌜ ReadsOn (r .entry) d ⌝ }
+{
+    read_from(r.text, r.at, r.line)
+}
+
+// The reading of the lines from a place on.
+pub fn read_from(s: &[u8], at: usize, line: usize) -> Reading
+    ensures { λ r. ⌜ ReadingIs r (readFrom (now (s .entry)) at line) ⌝ }
 {
     if MOST_BYTES < s.len() {
         let none = routine::empty();
@@ -125,7 +142,7 @@ pub fn read(s: &[u8]) -> Reading
         };
     }
     let mut k = known::begin();
-    let mut c = Cursor { at: 0, line: 0 };
+    let mut c = handed::placed(s, at, line);
     loop {
         match cursor::look(s, c) {
             Ahead::Line(l, next) => {

@@ -11,4 +11,3 @@ pub mod Parts
 pub mod Turns
 pub mod Ran
 pub mod Begins
-pub mod Numbers

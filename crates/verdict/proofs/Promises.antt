@@ -22,7 +22,7 @@ use Rattle.verdict.specs.Judge.{workAfter, listAfter, cameOf, Judged}
 use Rattle.verdict.specs.Verdict.{placesOf, GivenUp, Decided, Equals, Differing, Unknowns, Claims, ClaimsIn}
 use Rattle.verdict.specs.Verdict.{Listed, RefusedAs}
 use Rattle.verdict.proofs.Laws.Bytes.{bytes-length}
-use Rattle.verdict.proofs.Laws.Numbers.{NumberedReading, read-numbered}
+use Rattle.text.proofs.Laws.Refusing.{Numbered, read-numbered}
 use Rattle.verdict.proofs.Text.{outcome-claims, outcome-only}
 
 -- ---- an outcome, by the verdict that it reports
@@ -75,7 +75,7 @@ refused-told (differs n i bs) s g c e = let z : _≡_ {A = ℕ} 0 1 = cc in absu
 refused-told (unknown l i) s g c e = let z : _≡_ {A = ℕ} 0 1 = cc in absurd (omega arith)
 
 -- 1 is no number of reading's
-one-told : (s : Bool) (o : Outcome) (g : Reading) → ClaimsIn s g o → NumberedReading g → report o .refusal ≡ 1
+one-told : (s : Bool) (o : Outcome) (g : Reading) → ClaimsIn s g o → Numbered g → report o .refusal ≡ 1
     → s ≡ true
 unfolding report
 one-told true o g c h e = refl

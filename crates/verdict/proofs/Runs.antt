@@ -24,7 +24,7 @@ use Rattle.verdict.proofs.Laws.Closed.{origin-closed, masked-closed, re
 use Rattle.verdict.proofs.Laws.Value.{modulus-of}
 use Rattle.verdict.proofs.Laws.Bytes.{bytes-closed, bytes-length, bytes-of}
 use Rattle.verdict.proofs.Laws.Definition.{equivalent-agrees}
-use Rattle.verdict.proofs.Laws.Numbers.{NumberedReading, read-numbered}
+use Rattle.text.proofs.Laws.Refusing.{Numbered, read-numbered}
 use Rattle.verdict.proofs.Laws.Ran.{run-refused, run-taken}
 use Rattle.verdict.proofs.Promises.{judged-equal, judged-differs}
 
@@ -72,7 +72,7 @@ module _ {text xs : List ℕ} {a : RunReport} (R : Ran text xs a) where
   unfolding runRefused
   eleven-only e = go (readText text) refl (read-numbered text)
     where
-      go : (g : Reading) → readText text ≡ g → NumberedReading g
+      go : (g : Reading) → readText text ≡ g → Numbered g
           → (r : Routine) × (readText text ≡ accepted r) × (length xs ≢ r .variables)
       go (refused n l) f h =
           let k : a .refusal ≡ n = ap (λ (b : RunReport). b .refusal) (ran-refused n l f) in

@@ -11,7 +11,7 @@ use lib.ListN.{getD}
 use Rattle.field.specs.Xor.{_⊕_}
 use Rattle.field.specs.Field.{Modulus, double, shifted, times, squared}
 use Rattle.field.specs.Field.Modulus.{aes, seal}
-use Rattle.field.specs.Ring.{Ring}
+use Rattle.field.specs.Laws.{Ring, over}
 use Rattle.field.specs.Maps.{sum, dualOf}
 use Rattle.field.proofs.Laws.Computed.{each, each-at, same-at}
 use Rattle.field.proofs.Laws.Linear.{agree-byte}
@@ -48,11 +48,11 @@ add-delta : (i d : ℕ) → delta (i + d) i ≡ delta d 0
 add-delta zero d = ap (λ x. delta x 0) (zero-add d)
 add-delta (suc i) d = ap (λ x. delta x (suc i)) (suc-add i d) ∙ add-delta i d
 
-module _ {mul : ℕ → ℕ → ℕ} (R : Ring mul) {dual : List ℕ} (P : Tested mul dual) where
+module _ {mul : ℕ → ℕ → ℕ} (R : Ring (over mul)) {dual : List ℕ} (P : Tested mul dual) where
   picks : (i x : ℕ) → i < 8 → x < 256 → sum 8 (λ j. squared mul j (mul (getD dual i 0) x)) ≡ x / 2 ^ i % 2
   picks i x hi =
       agree-byte (λ x. sum 8 (λ j. squared mul j (mul (getD dual i 0) x))) (λ x. x / 2 ^ i % 2)
-      (λ a b. sum-cong 8 (λ j h. ap (squared mul j) (R .spread (getD dual i 0) a b)
+      (λ a b. sum-cong 8 (λ j h. ap (squared mul j) (R .distrib (getD dual i 0) a b)
       ∙ squared-spread R j (mul (getD dual i 0) a) (mul (getD dual i 0) b))
       ∙ sum-spread 8 (λ j. squared mul j (mul (getD dual i 0) a)) (λ j. squared mul j (mul (getD dual i 0) b)))
       (λ a b. ap (λ x. x % 2) (⊕-shr i a b) ∙ ⊕-mod 1 (a / 2 ^ i) (b / 2 ^ i))

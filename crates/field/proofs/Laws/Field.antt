@@ -4,23 +4,13 @@ use mathlib.Core.Path.{sym, _∙_}
 use Prim.Native.Nat.{ℕ}
 use Rattle.field.specs.Field.{Modulus}
 use Rattle.field.specs.Laws.{Laws, gf}
-use Rattle.field.proofs.Laws.Xor.{⊕-comm, ⊕-assoc, ⊕-self, ⊕-zero, ⊕-lt}
 use Rattle.field.proofs.Laws.Powers.{power-squared, fermat, factor-zero}
 use Rattle.field.proofs.Laws.Modulus.{periodic}
 
 -- the one record of laws, for either modulus
 pub gf-laws : {m : ℕ} → Modulus m → Laws (gf m)
-gf-laws {m} M = record {
-  add-byte = λ h k. ⊕-lt 8 h k;
-  add-comm = ⊕-comm;
-  add-assoc = ⊕-assoc;
-  add-zero = ⊕-zero;
-  add-self = ⊕-self;
-  mul-byte = periodic M .ring .closed;
-  mul-comm = periodic M .ring .comm;
-  mul-assoc = periodic M .ring .assoc;
-  distrib = periodic M .ring .spread;
-  one-mul = periodic M .ring .one;
+gf-laws M = record {
+  ring = periodic M .ring;
   no-zero = factor-zero (periodic M);
   eight-squares = λ a h. sym (power-squared (periodic M .ring) 8 a h) ∙ fermat (periodic M) a h;
 }

@@ -10,11 +10,12 @@ use lib.ListN.{getD}
 use lib.Seq.{ext-getD}
 use Rattle.field.specs.Xor.{_⊕_}
 use Rattle.field.specs.Field.{power, squared}
-use Rattle.field.specs.Ring.{Ring}
+use Rattle.field.specs.Laws.{Ring, over}
 use Rattle.field.specs.Maps.{sum, linear, series, coefficient, coefficients, columnsOf, Bytes8}
 use Rattle.field.proofs.Laws.Xor.{bit-cases, ⊕-lt}
 use Rattle.field.proofs.Laws.Computed.{each, each-at, same-at}
-use Rattle.field.proofs.Laws.Powers.{zero-right, one-right, squared-mul, squared-spread, power-squared}
+use Rattle.field.proofs.Laws.Algebra.{mul-zero, mul-one}
+use Rattle.field.proofs.Laws.Powers.{squared-mul, squared-spread, power-squared}
 use Rattle.field.proofs.Laws.Sums.{sum-cong, sum-spread, sum-swap, sum-lt, delta, mul-sum, sum-mul, sum-pick}
 use Rattle.field.proofs.Laws.Sums.{length-listOf, getD-listOf}
 
@@ -38,11 +39,11 @@ column : (mul : ℕ → ℕ → ℕ) (l : List ℕ) (k : ℕ) → k < 8 → getD
 unfolding columnsOf
 column mul l k h = getD-listOf 8 (λ i. series mul l (2 ^ i)) 0 k h
 
-bit-mul : {mul : ℕ → ℕ → ℕ} → Ring mul → (c x : ℕ) → c < 256 → x < 2 → mul c x ≡ x * c
+bit-mul : {mul : ℕ → ℕ → ℕ} → Ring (over mul) → (c x : ℕ) → c < 256 → x < 2 → mul c x ≡ x * c
 bit-mul {mul} R c x h =
-    bit-cases (λ x. mul c x ≡ x * c) (zero-right R c ∙ sym (zero-mul c)) (one-right R c h ∙ sym (one-mul c)) x
+    bit-cases (λ x. mul c x ≡ x * c) (mul-zero R c ∙ sym (zero-mul c)) (mul-one R c h ∙ sym (one-mul c)) x
 
-module _ {mul : ℕ → ℕ → ℕ} (R : Ring mul) where
+module _ {mul : ℕ → ℕ → ℕ} (R : Ring (over mul)) where
   -- the series by repeated squares
   pub series-squared : (l : List ℕ) (x : ℕ) → x < 256 → series mul l x ≡ sum 8 (λ j. mul (getD l j 0) (squared mul j x))
   unfolding series
@@ -52,7 +53,7 @@ module _ {mul : ℕ → ℕ → ℕ} (R : Ring mul) where
   pub series-lt : (l : List ℕ) (x : ℕ) → series mul l x < 256
   unfolding series
   series-lt l x = sum-lt 8 (λ j. mul (getD l j 0) (power mul x (2 ^ j)))
-      (λ j h. R .closed (getD l j 0) (power mul x (2 ^ j)))
+      (λ j h. R .mul-byte (getD l j 0) (power mul x (2 ^ j)))
 
   -- the series takes sums to sums
   pub series-spread : (l : List ℕ) (x y : ℕ) → x < 256 → y < 256
@@ -60,7 +61,7 @@ module _ {mul : ℕ → ℕ → ℕ} (R : Ring mul) where
   series-spread l x y hx hy =
       series-squared l (x ⊕ y) (⊕-lt 8 hx hy)
       ∙ sum-cong 8 (λ j h. ap (mul (getD l j 0)) (squared-spread R j x y)
-      ∙ R .spread (getD l j 0) (squared mul j x) (squared mul j y))
+      ∙ R .distrib (getD l j 0) (squared mul j x) (squared mul j y))
       ∙ sum-spread 8 (λ j. mul (getD l j 0) (squared mul j x)) (λ j. mul (getD l j 0) (squared mul j y))
       ∙ sym (ap₂ _⊕_ (series-squared l x hx) (series-squared l y hy))
 
@@ -94,14 +95,14 @@ module _ {mul : ℕ → ℕ → ℕ} (R : Ring mul) where
       eight = length-listOf 8 (coefficient mul dual columns);
       byte = λ j h. subst (λ (x : ℕ). x < 256) (sym (at columns j h))
           (sum-lt 8 (λ i. mul (getD columns i 0) (squared mul j (getD dual i 0)))
-          (λ i l. R .closed (getD columns i 0) (squared mul j (getD dual i 0))));
+          (λ i l. R .mul-byte (getD columns i 0) (squared mul j (getD dual i 0))));
     }
 
     -- one column's part of the series
     part : (i c x : ℕ) → i < 8 → c < 256 → x < 256
         → sum 8 (λ j. mul (mul c (squared mul j (getD dual i 0))) (squared mul j x)) ≡ x / 2 ^ i % 2 * c
     part i c x hi hc hx =
-        sum-cong 8 (λ j l. R .assoc c (squared mul j (getD dual i 0)) (squared mul j x)
+        sum-cong 8 (λ j l. R .mul-assoc c (squared mul j (getD dual i 0)) (squared mul j x)
         ∙ ap (mul c) (sym (squared-mul R j (getD dual i 0) x)))
         ∙ sym (mul-sum R 8 c (λ j. squared mul j (mul (getD dual i 0) x)))
         ∙ ap (mul c) (D .picks i x hi hx)
@@ -123,7 +124,7 @@ module _ {mul : ℕ → ℕ → ℕ} (R : Ring mul) where
         getD l j 0
     gathered l B j hj =
         sum-cong 8 (λ k h. sum-mul R 8 (squared mul j (getD dual k 0)) (λ i. mul (getD l i 0) (squared mul i (2 ^ k)))
-        ∙ sum-cong 8 (λ i h. R .assoc (getD l i 0) (squared mul i (2 ^ k)) (squared mul j (getD dual k 0))))
+        ∙ sum-cong 8 (λ i h. R .mul-assoc (getD l i 0) (squared mul i (2 ^ k)) (squared mul j (getD dual k 0))))
         ∙ sum-swap 8 8 (λ k i. mul (getD l i 0) (mul (squared mul i (2 ^ k)) (squared mul j (getD dual k 0))))
         ∙ sum-cong 8 (λ i hi. sym (mul-sum R 8 (getD l i 0)
         (λ k. mul (squared mul i (2 ^ k)) (squared mul j (getD dual k 0))))

@@ -9,12 +9,13 @@ use borrow.Author.Tests.{eq-eqb}
 use Rattle.field.specs.Xor.{_⊕_}
 use Rattle.field.specs.Field.{Modulus, double, shifted, times, power, squared}
 use Rattle.field.specs.Field.Modulus.{aes, seal}
-use Rattle.field.specs.Ring.{Ring, Periodic}
+use Rattle.field.specs.Laws.{Ring, Periodic, over}
 use Rattle.field.proofs.Laws.Xor.{bit-cases}
 use Rattle.field.proofs.Laws.Computed.{each, each-at, same-at}
 use Rattle.field.proofs.Laws.Linear.{agree-byte}
 use Rattle.field.proofs.Laws.Ring.{ring}
-use Rattle.field.proofs.Laws.Powers.{power-suc, power-add, power-lt, power-squared, squared-spread, zero-right}
+use Rattle.field.proofs.Laws.Algebra.{mul-zero, pow-byte, pow-add}
+use Rattle.field.proofs.Laws.Powers.{power-suc, power-squared, squared-spread}
 
 abbrev implies : Bool → Bool → Bool
 implies true b = b
@@ -28,7 +29,7 @@ record Tested (mul : ℕ → ℕ → ℕ) : Type 0 where
   roots : T (each 8 (λ i. eqb (squared mul 8 (2 ^ i)) (2 ^ i)))
   idempotents : T (each 256 (idempotent mul))
 
-module _ {mul : ℕ → ℕ → ℕ} (R : Ring mul) (P : Tested mul) where
+module _ {mul : ℕ → ℕ → ℕ} (R : Ring (over mul)) (P : Tested mul) where
   fermat : (a : ℕ) → a < 256 → power mul a 256 ≡ a
   fermat a h =
       power-squared R 8 a h
@@ -41,17 +42,17 @@ module _ {mul : ℕ → ℕ → ℕ} (R : Ring mul) (P : Tested mul) where
       (each-at 256 (idempotent mul) (P .idempotents) e h))
 
   period : (a : ℕ) → a < 256 → (a ≡ 0 → ⊥) → power mul a 255 ≡ 1
-  period a h n = go (power mul a 255) (own-square (power mul a 255) (power-lt R a 255) square) refl
+  period a h n = go (power mul a 255) (own-square (power mul a 255) (pow-byte R a 255) square) refl
     where
       square : mul (power mul a 255) (power mul a 255) ≡ power mul a 255
       square =
-          sym (power-add R a 255 255) ∙ power-add R a 254 256 ∙ ap (mul (power mul a 254)) (fermat a h)
-          ∙ R .comm (power mul a 254) a ∙ sym (power-suc mul a 254)
+          sym (pow-add R a 255 255) ∙ pow-add R a 254 256 ∙ ap (mul (power mul a 254)) (fermat a h)
+          ∙ R .mul-comm (power mul a 254) a ∙ sym (power-suc mul a 254)
 
       go : (e : ℕ) → e < 2 → power mul a 255 ≡ e → power mul a 255 ≡ 1
       go =
           bit-cases (λ e. power mul a 255 ≡ e → power mul a 255 ≡ 1)
-          (λ q. absurd (n (sym (fermat a h) ∙ power-suc mul a 255 ∙ ap (mul a) q ∙ zero-right R a))) (λ q. q)
+          (λ q. absurd (n (sym (fermat a h) ∙ power-suc mul a 255 ∙ ap (mul a) q ∙ mul-zero R a))) (λ q. q)
 
   field : Periodic mul
   field = record { ring = R; period = period }

@@ -1,15 +1,15 @@
 -- What follows from the laws: powers, squares, inverses.
 -- Assumes nothing.
-use mathlib.Core.Path.{_≡_, refl, sym, ap, ap₂, _∙_}
+use mathlib.Core.Path.{_≡_, refl, sym, ap, _∙_}
 use Prim.Native.Nat.{ℕ, zero, suc, _+_, _*_, _^_, _<_}
-use native.Mathlib.Nat.{zero-add, suc-add, mul-suc, mul-zero, pow-suc}
+use native.Mathlib.Nat.{zero-add, suc-add, mul-suc, mul-zero as nat-mul-zero, pow-suc}
 use native.Mathlib.Omega.{arith}
 use native.Mathlib.Decide.{ℕ-discrete}
 use lib.Dec.{lit<}
 use Rattle.field.specs.Xor.{_⊕_}
 use Rattle.field.specs.Field.{power, squared}
-use Rattle.field.specs.Ring.{Ring, Periodic}
-use Rattle.field.proofs.Laws.Xor.{⊕-self, ⊕-assoc, ⊕-cancel}
+use Rattle.field.specs.Laws.{Ring, Periodic, over}
+use Rattle.field.proofs.Laws.Algebra.{mul-zero, zero-mul, mul-one, mul-swap, square-add, pow-add}
 
 -- one power more
 pub power-suc : (mul : ℕ → ℕ → ℕ) (a e : ℕ) → power mul a (suc e) ≡ mul a (power mul a e)
@@ -17,80 +17,39 @@ power-suc mul a e = refl
 
 -- ---- in the ring
 
-module _ {mul : ℕ → ℕ → ℕ} (R : Ring mul) where
-  -- a product with 0 is 0
-  pub zero-right : (a : ℕ) → mul a 0 ≡ 0
-  zero-right a = ap (mul a) (sym (⊕-self 0)) ∙ R .spread a 0 0 ∙ ⊕-self (mul a 0)
-
-  -- and on the other side
-  pub zero-left : (a : ℕ) → mul 0 a ≡ 0
-  zero-left a = R .comm 0 a ∙ zero-right a
-
-  -- a product with 1 is the byte itself
-  pub one-right : (a : ℕ) → a < 256 → mul a 1 ≡ a
-  one-right a h = R .comm a 1 ∙ R .one a h
-
-  -- products distribute over ⊕ on the left too
-  pub spread-left : (a b c : ℕ) → mul (a ⊕ b) c ≡ mul a c ⊕ mul b c
-  spread-left a b c = R .comm (a ⊕ b) c ∙ R .spread c a b ∙ ap₂ _⊕_ (R .comm c a) (R .comm c b)
-
-  -- factors change places
-  pub left-comm : (a b c : ℕ) → mul a (mul b c) ≡ mul b (mul a c)
-  left-comm a b c = sym (R .assoc a b c) ∙ ap (λ x. mul x c) (R .comm a b) ∙ R .assoc b a c
-
-  -- products of products
-  pub mul-swap : (a b c d : ℕ) → mul (mul a b) (mul c d) ≡ mul (mul a c) (mul b d)
-  mul-swap a b c d = simp (R .assoc, left-comm b c d)
-
+module _ {mul : ℕ → ℕ → ℕ} (R : Ring (over mul)) where
   -- ---- powers
-
-  -- a power is a byte
-  pub power-lt : (a e : ℕ) → power mul a e < 256
-  power-lt a zero = lit< tt
-  power-lt a (suc e) = R .closed a (power mul a e)
 
   -- the first power
   pub power-one : (a : ℕ) → a < 256 → power mul a 1 ≡ a
-  power-one a h = one-right a h
-
-  -- a^(i+j) = a^i·a^j
-  pub power-add : (a i j : ℕ) → power mul a (i + j) ≡ mul (power mul a i) (power mul a j)
-  power-add a zero j = ap (power mul a) (zero-add j) ∙ sym (R .one (power mul a j) (power-lt a j))
-  power-add a (suc i) j =
-      ap (power mul a) (suc-add i j) ∙ ap (mul a) (power-add a i j) ∙ sym (R .assoc a (power mul a i) (power mul a j))
+  power-one a h = mul-one R a h
 
   -- (a·b)^e = a^e·b^e
   pub power-mul : (a b e : ℕ) → power mul (mul a b) e ≡ mul (power mul a e) (power mul b e)
-  power-mul a b zero = sym (R .one 1 (lit< tt))
-  power-mul a b (suc e) = ap (mul (mul a b)) (power-mul a b e) ∙ mul-swap a b (power mul a e) (power mul b e)
+  power-mul a b zero = sym (R .one-mul 1 (lit< tt))
+  power-mul a b (suc e) = ap (mul (mul a b)) (power-mul a b e) ∙ mul-swap R a b (power mul a e) (power mul b e)
 
   -- a power of 0 above the zeroth is 0
   pub power-zero : (e : ℕ) → power mul 0 (suc e) ≡ 0
-  power-zero e = zero-left (power mul 0 e)
+  power-zero e = zero-mul R (power mul 0 e)
 
   -- a power of 1 is 1
   pub one-power : (e : ℕ) → power mul 1 e ≡ 1
   one-power zero = refl
-  one-power (suc e) = ap (mul 1) (one-power e) ∙ R .one 1 (lit< tt)
+  one-power (suc e) = ap (mul 1) (one-power e) ∙ R .one-mul 1 (lit< tt)
 
   -- (a·a)^e = a^(e+e)
   pub power-square : (a e : ℕ) → power mul (mul a a) e ≡ power mul a (e + e)
-  power-square a e = power-mul a a e ∙ sym (power-add a e e)
+  power-square a e = power-mul a a e ∙ sym (pow-add R a e e)
 
   -- (a^i)^j = a^(i·j)
   pub power-power : (a i j : ℕ) → power mul (power mul a i) j ≡ power mul a (i * j)
-  power-power a i zero = ap (power mul a) (sym (mul-zero i))
+  power-power a i zero = ap (power mul a) (sym (nat-mul-zero i))
   power-power a i (suc j) =
       let e : i + i * j ≡ i * suc j = omega (arith, mul-suc i j) in
-      ap (mul (power mul a i)) (power-power a i j) ∙ sym (power-add a i (i * j)) ∙ ap (power mul a) e
+      ap (mul (power mul a i)) (power-power a i j) ∙ sym (pow-add R a i (i * j)) ∙ ap (power mul a) e
 
   -- ---- squares, and the powers of 2 that come of them
-
-  -- squaring takes sums to sums
-  pub square-spread : (a b : ℕ) → mul (a ⊕ b) (a ⊕ b) ≡ mul a a ⊕ mul b b
-  square-spread a b =
-      spread-left a b (a ⊕ b) ∙ ap₂ _⊕_ (R .spread a a b) (R .spread b a b ∙ ap (λ x. x ⊕ mul b b) (R .comm b a))
-      ∙ ⊕-assoc (mul a a) (mul a b) (mul a b ⊕ mul b b) ∙ ap (λ x. mul a a ⊕ x) (⊕-cancel (mul a b) (mul b b))
 
   -- a^(2^(j+1)) = (a·a)^(2^j)
   pub power-next : (a j : ℕ) → power mul a (2 ^ suc j) ≡ power mul (mul a a) (2 ^ j)
@@ -101,17 +60,17 @@ module _ {mul : ℕ → ℕ → ℕ} (R : Ring mul) where
   -- a^(2^j) is a squared j times
   pub power-squared : (j a : ℕ) → a < 256 → power mul a (2 ^ j) ≡ squared mul j a
   power-squared zero a h = power-one a h
-  power-squared (suc j) a h = power-next a j ∙ power-squared j (mul a a) (R .closed a a)
+  power-squared (suc j) a h = power-next a j ∙ power-squared j (mul a a) (R .mul-byte a a)
 
   -- so do repeated squares
   pub squared-spread : (j a b : ℕ) → squared mul j (a ⊕ b) ≡ squared mul j a ⊕ squared mul j b
   squared-spread zero a b = refl
-  squared-spread (suc j) a b = ap (squared mul j) (square-spread a b) ∙ squared-spread j (mul a a) (mul b b)
+  squared-spread (suc j) a b = ap (squared mul j) (square-add R a b) ∙ squared-spread j (mul a a) (mul b b)
 
   -- and products to products
   pub squared-mul : (j a b : ℕ) → squared mul j (mul a b) ≡ mul (squared mul j a) (squared mul j b)
   squared-mul zero a b = refl
-  squared-mul (suc j) a b = ap (squared mul j) (mul-swap a b a b) ∙ squared-mul j (mul a a) (mul b b)
+  squared-mul (suc j) a b = ap (squared mul j) (mul-swap R a b a b) ∙ squared-mul j (mul a a) (mul b b)
 
   -- squared j + i times is squared j times, then i times
   pub squared-add : (i j a : ℕ) → squared mul (j + i) a ≡ squared mul i (squared mul j a)
@@ -121,12 +80,12 @@ module _ {mul : ℕ → ℕ → ℕ} (R : Ring mul) where
   -- 0 squared is 0
   pub squared-zero : (j : ℕ) → squared mul j 0 ≡ 0
   squared-zero zero = refl
-  squared-zero (suc j) = ap (squared mul j) (zero-right 0) ∙ squared-zero j
+  squared-zero (suc j) = ap (squared mul j) (mul-zero R 0) ∙ squared-zero j
 
   -- 1 squared is 1
   pub squared-one : (j : ℕ) → squared mul j 1 ≡ 1
   squared-one zero = refl
-  squared-one (suc j) = ap (squared mul j) (R .one 1 (lit< tt)) ∙ squared-one j
+  squared-one (suc j) = ap (squared mul j) (R .one-mul 1 (lit< tt)) ∙ squared-one j
 
 -- ---- in the field
 
@@ -137,14 +96,14 @@ module _ {mul : ℕ → ℕ → ℕ} (L : Periodic mul) where
     where
       go : Dec (a ≡ 0) → power mul a 256 ≡ a
       go (yes e) = ap (λ x. power mul x 256) e ∙ power-zero (L .ring) 255 ∙ sym e
-      go (no e) = power-suc mul a 255 ∙ ap (mul a) (L .period a h e) ∙ one-right (L .ring) a h
+      go (no e) = power-suc mul a 255 ∙ ap (mul a) (L .period a h e) ∙ mul-one (L .ring) a h
 
   -- a power above 255 is the power less 255
   pub power-drop : (a e : ℕ) → a < 256 → power mul a (suc e + 255) ≡ power mul a (suc e)
   power-drop a e h =
       let s : suc e + 255 ≡ e + 256 = omega arith in
-      ap (power mul a) s ∙ power-add (L .ring) a e 256 ∙ ap (mul (power mul a e)) (fermat a h)
-      ∙ L .ring .comm (power mul a e) a ∙ sym (power-suc mul a e)
+      ap (power mul a) s ∙ pow-add (L .ring) a e 256 ∙ ap (mul (power mul a e)) (fermat a h)
+      ∙ L .ring .mul-comm (power mul a e) a ∙ sym (power-suc mul a e)
 
   -- the 254th power is the inverse
   pub inverse : (a : ℕ) → a < 256 → (a ≡ 0 → ⊥) → mul a (power mul a 254) ≡ 1
@@ -156,9 +115,9 @@ module _ {mul : ℕ → ℕ → ℕ} (L : Periodic mul) where
     where
       undo : (x : ℕ) → x < 256 → mul (power mul a 254) (mul a x) ≡ x
       undo x hx =
-          sym (L .ring .assoc (power mul a 254) a x)
-          ∙ ap (λ y. mul y x) (L .ring .comm (power mul a 254) a ∙ inverse a ha n) ∙ L .ring .one x hx
+          sym (L .ring .mul-assoc (power mul a 254) a x)
+          ∙ ap (λ y. mul y x) (L .ring .mul-comm (power mul a 254) a ∙ inverse a ha n) ∙ L .ring .one-mul x hx
 
   -- no zero divisors
   pub factor-zero : (a b : ℕ) → a < 256 → b < 256 → (a ≡ 0 → ⊥) → mul a b ≡ 0 → b ≡ 0
-  factor-zero a b ha hb n e = mul-cancel a b 0 ha hb (lit< tt) n (e ∙ sym (zero-right (L .ring) a))
+  factor-zero a b ha hb n e = mul-cancel a b 0 ha hb (lit< tt) n (e ∙ sym (mul-zero (L .ring) a))

@@ -8,8 +8,8 @@ use native.Mathlib.Nat.{one-mul, pow-suc, mul-mod-left, mul-div-cancel, div-eq-o
 use lib.Pow.{pow-lt}
 use Rattle.field.specs.Xor.{_⊕_}
 use Rattle.field.specs.Field.{double, shifted, times}
-use Rattle.field.specs.Ring.{Ring}
-use Rattle.field.proofs.Laws.Xor.{⊕-zero, zero-⊕, bit}
+use Rattle.field.specs.Laws.{Ring, gf}
+use Rattle.field.proofs.Laws.Xor.{⊕-comm, ⊕-assoc, ⊕-self, ⊕-zero, zero-⊕, ⊕-lt, bit}
 use Rattle.field.proofs.Laws.Linear.{agree, after, at-zero}
 use Rattle.field.proofs.Laws.Product.{double-spread, double-lt, double-bit, shifted-right, times-left}
 use Rattle.field.proofs.Laws.Product.{times-right, times-lt, times-one}
@@ -110,11 +110,16 @@ module _ (m : ℕ) where
             ∙ ap (times m a) (sym (times-power k (2 ^ j) hk (pow-lt hj)))
 
     -- the bytes are a commutative ring over every modulus
-    pub ring : Ring (times m)
+    pub ring : Ring (gf m)
     ring = record {
-      closed = λ a b. times-lt m a b hm;
-      comm = comm;
-      assoc = assoc;
-      spread = λ a. times-right m a .spread;
-      one = λ a h. comm 1 a ∙ times-one m a ∙ mod-eq-of-lt h;
+      add-byte = λ h k. ⊕-lt 8 h k;
+      add-comm = ⊕-comm;
+      add-assoc = ⊕-assoc;
+      add-zero = ⊕-zero;
+      add-self = ⊕-self;
+      mul-byte = λ a b. times-lt m a b hm;
+      mul-comm = comm;
+      mul-assoc = assoc;
+      distrib = λ a. times-right m a .spread;
+      one-mul = λ a h. comm 1 a ∙ times-one m a ∙ mod-eq-of-lt h;
     }

@@ -67,7 +67,7 @@ module _ (m : ℕ) (hm : m < 256) where
       (power (times m) x n)
   power-odd r x n p =
       let q : suc (n / 2 + n / 2) ≡ n = omega arith in
-      ring m hm .assoc r x (power (times m) (times m x x) (n / 2))
+      ring m hm .mul-assoc r x (power (times m) (times m x x) (n / 2))
       ∙ ap (times m r) (ap (times m x) (power-square (ring m hm) x (n / 2))
       ∙ sym (power-suc (times m) x (n / 2 + n / 2)) ∙ ap (power (times m) x) q)
 

@@ -12,10 +12,10 @@ use borrow.Author.Count.{below-more}
 use lib.ListN.{length, getD, set}
 use lib.Seq.{ext-getD, getD-set-same, getD-set-other}
 use Rattle.field.specs.Xor.{_⊕_}
-use Rattle.field.specs.Ring.{Ring}
+use Rattle.field.specs.Laws.{Ring, over}
 use Rattle.field.specs.Maps.{sum, listOf}
 use Rattle.field.proofs.Laws.Xor.{⊕-self, ⊕-swap, ⊕-left-comm, ⊕-zero, zero-⊕, ⊕-lt}
-use Rattle.field.proofs.Laws.Powers.{zero-right, one-right}
+use Rattle.field.proofs.Laws.Algebra.{mul-zero, mul-one}
 
 below : {i n : ℕ} → i < n → i < suc n
 below {n = n} h = lt-trans h (le-refl (suc n))
@@ -86,17 +86,17 @@ delta-other (suc i) (suc k) h = delta-other i k (λ e. h (ap suc e))
 
 -- ---- with the multiplication
 
-module _ {mul : ℕ → ℕ → ℕ} (R : Ring mul) where
+module _ {mul : ℕ → ℕ → ℕ} (R : Ring (over mul)) where
   -- a factor goes into a sum
   pub mul-sum : (n a : ℕ) (f : ℕ → ℕ) → mul a (sum n f) ≡ sum n (λ i. mul a (f i))
-  mul-sum n a = sum-map (mul a) (R .spread a) n
+  mul-sum n a = sum-map (mul a) (R .distrib a) n
 
   -- on the other side too
   pub sum-mul : (n a : ℕ) (f : ℕ → ℕ) → mul (sum n f) a ≡ sum n (λ i. mul (f i) a)
-  sum-mul n a f = R .comm (sum n f) a ∙ mul-sum n a f ∙ sum-cong n (λ i l. R .comm a (f i))
+  sum-mul n a f = R .mul-comm (sum n f) a ∙ mul-sum n a f ∙ sum-cong n (λ i l. R .mul-comm a (f i))
 
   none : (n j : ℕ) (f : ℕ → ℕ) → ((i : ℕ) → i < n → i ≡ j → ⊥) → sum n (λ i. mul (f i) (delta i j)) ≡ 0
-  none n j f h = sum-cong n (λ i l. ap (mul (f i)) (delta-other i j (h i l)) ∙ zero-right R (f i)) ∙ sum-zero n
+  none n j f h = sum-cong n (λ i l. ap (mul (f i)) (delta-other i j (h i l)) ∙ mul-zero R (f i)) ∙ sum-zero n
 
   -- the sum has one term that counts
   pub sum-pick : (n j : ℕ) (f : ℕ → ℕ) → j < n → f j < 256 → sum n (λ i. mul (f i) (delta i j)) ≡ f j
@@ -107,12 +107,12 @@ module _ {mul : ℕ → ℕ → ℕ} (R : Ring mul) where
       go : Dec (j ≡ n) → (j < n → sum n (λ i. mul (f i) (delta i j)) ≡ f j)
           → sum (suc n) (λ i. mul (f i) (delta i j)) ≡ f j
       go (yes e) ih =
-          ap₂ _⊕_ (ap (λ i. mul (f i) (delta i j)) (sym e) ∙ ap (mul (f j)) (delta-self j) ∙ one-right R (f j) b)
+          ap₂ _⊕_ (ap (λ i. mul (f i) (delta i j)) (sym e) ∙ ap (mul (f j)) (delta-self j) ∙ mul-one R (f j) b)
           (none n j f (λ i l p. omega arith))
           ∙ ⊕-zero (f j)
       go (no e) ih =
           ap₂ _⊕_ (ap (mul (f n)) (delta-other n j (λ p. e (sym p)))
-          ∙ zero-right R (f n)) (ih (lt-of-le-ne (le-of-suc-le-suc h) e))
+          ∙ mul-zero R (f n)) (ih (lt-of-le-ne (le-of-suc-le-suc h) e))
           ∙ zero-⊕ (f j)
 
 -- ---- lists of values

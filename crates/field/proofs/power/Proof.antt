@@ -8,7 +8,7 @@ use borrow.Author.Needs.{needs}
 use lib.Dec.{lit<}
 use Rattle.field.specs.Field.{times, power}
 use Rattle.field.proofs.Laws.Ring.{ring}
-use Rattle.field.proofs.Laws.Powers.{power-lt, one-right}
+use Rattle.field.proofs.Laws.Algebra.{pow-byte, mul-one}
 use Rattle.field.proofs.Laws.Product.{times-lt}
 use Rattle.field.proofs.Laws.Steps.{power-odd, power-even}
 use Rattle.field.proofs.power.Statement.{statement}
@@ -24,7 +24,7 @@ loop-holds : tie.Need-loop-holds Inv-loop μ-loop
 loop-holds c =
     let g = c .args in
     let R = ring (g .m) (omega arith) in
-    (lit< tt, R .one (power (times (g .m)) (g .a) (g .e)) (power-lt R (g .a) (g .e)))
+    (lit< tt, R .one-mul (power (times (g .m)) (g .a) (g .e)) (pow-byte R (g .a) (g .e)))
 
 times-requires : tie.Need-times-requires Inv-loop μ-loop
 times-requires c κs = search needs
@@ -58,7 +58,7 @@ returns c =
     let l = c .before .loop in
     let m = c .before .before .args .m in
     let z : l .n ≡ 0 = omega arith in
-    sym (one-right (ring m (omega arith)) (l .result) (l .inv .0))
+    sym (mul-one (ring m (omega arith)) (l .result) (l .inv .0))
     ∙ ap (λ (k : ℕ). times m (l .result) (power (times m) (l .x) k)) (sym z) ∙ l .inv .1
 
 pub power-spec : {M : Type 1} → statement M

@@ -9,13 +9,13 @@ use native.Mathlib.Omega.{arith}
 use native.Mathlib.Nat.{eq-or-lt-of-le, le-refl, le-of-suc-le-suc}
 use native.Mathlib.Decide.{decLe}
 use lib.ListN.{length, replicate, take}
-use Rattle.field.specs.Laws.{Ops, Laws}
+use Rattle.field.specs.Laws.{Ops, Laws, Ring}
 use Rattle.poly.specs.Poly.{term, Poly, order}
 use Rattle.poly.specs.Value.{mono, eval}
 use Rattle.poly.specs.First.{put, unlessNone, seek, firstByte, firstDiffering, maxEach, highest}
 use Rattle.poly.specs.Canon.{Within, ByteList, Spare, Powers, Coefs, Above, Sorted, NonzeroByte, Canon, Some}
 use Rattle.poly.specs.Canon.{Before}
-use Rattle.poly.proofs.Laws.Algebra.{mul-one}
+use Rattle.field.proofs.Laws.Algebra.{mul-one}
 use Rattle.poly.proofs.Laws.Order.{eq≢lt, order-self}
 use Rattle.poly.proofs.Laws.Normal.{powers-map}
 use Rattle.poly.proofs.Laws.Value.{eval-put}
@@ -86,7 +86,7 @@ module _ (F : Ops) where
 
 module _ (F : Ops) (L : Laws F) where
   open Ops F using (add, mul)
-  open Laws L using (add-zero)
+  open Ring (L .ring) using (add-zero)
 
   -- some byte up to the highest power of the first variable leaves a term
   pub firstByte-bound : {n : ℕ} (d : ℕ) (ds : List ℕ) (p : Poly) → d < 256 → Canon (suc n) p → Some p
@@ -122,7 +122,7 @@ module _ (F : Ops) (L : Laws F) where
       let q : eval F (term c e ∷ p) [] ≡ c =
       ap₂ (λ (m : ℕ) (r : Poly). add (mul c m) (eval F r [])) (mono-none e)
       (alone (replicate k 0) e p (w .0) (o .0) (w .1))
-      ∙ add-zero (mul c 1) ∙ mul-one F L c (h .0 .1) in
+      ∙ add-zero (mul c 1) ∙ mul-one (L .ring) c (h .0 .1) in
       let y : c ≡ 0 = sym q ∙ z in
       omega (arith, h .0 .0)
 

@@ -6,13 +6,13 @@ use Prim.Native.Nat.{ℕ, zero, suc, _+_, _*_, _≤_, _<_}
 use native.Mathlib.Omega.{arith}
 use native.Mathlib.Nat.{zero-mul, one-mul}
 use lib.ListN.{length}
-use Rattle.field.specs.Laws.{Ops, Laws}
+use Rattle.field.specs.Laws.{Ops, Laws, Ring}
 use Rattle.poly.specs.Poly.{term, Poly, order, constant, into, normal, scale, square, linearRaw, mapPoly}
 use Rattle.poly.specs.Value.{only, coef}
 use Rattle.poly.specs.Canon.{Canon, Raw}
 use Rattle.poly.specs.Size.{oneIf}
 use Rattle.poly.specs.Apply.{unlessZero}
-use Rattle.poly.proofs.Laws.Algebra.{zero-mul as mul-zero-left, zero-add}
+use Rattle.field.proofs.Laws.Algebra.{zero-mul as mul-zero-left, zero-add}
 use Rattle.poly.proofs.Laws.Normal.{canon-raw, insert-canon, only-zero, coef-insert}
 use Rattle.poly.proofs.Laws.Normal.{same-normal}
 use Rattle.poly.proofs.Laws.Reduced.{addPows-bytes, canon-constant}
@@ -26,7 +26,7 @@ square-raw F L [] h = record { coefs = tt; powers = tt }
 square-raw F L {n} (term c e ∷ p) h =
     let r : Raw n (square F p) = square-raw F L p (record { coefs = h .coefs .1; powers = h .powers .1 }) in
     record {
-      coefs = (L .mul-byte c c, r .coefs);
+      coefs = (L .ring .mul-byte c c, r .coefs);
       powers =
           (addPows-bytes n e e (h .powers .0) (h .powers .0), r .powers);
     }
@@ -36,7 +36,7 @@ scale-raw : (F : Ops) → Laws F → {n : ℕ} (l : ℕ) (p : Poly) → Raw n p 
 scale-raw F L l [] h = record { coefs = tt; powers = tt }
 scale-raw F L {n} l (term c e ∷ p) h =
     let r : Raw n (scale F l [] p) = scale-raw F L l p (record { coefs = h .coefs .1; powers = h .powers .1 }) in
-    record { coefs = (L .mul-byte l c, r .coefs); powers = (h .powers .0, r .powers) }
+    record { coefs = (L .ring .mul-byte l c, r .coefs); powers = (h .powers .0, r .powers) }
 
 -- the terms of a row: none where its coefficient is zero
 pub unless-length : (F : Ops) (l : ℕ) (p : Poly) → length (unlessZero l (scale F l [] p)) ≡ oneIf l * length p
@@ -50,7 +50,7 @@ unless-into F l p d = omega (arith, into-length F (unlessZero l (scale F l [] p)
 
 module _ (F : Ops) (L : Laws F) where
   open Ops F using (add, mul)
-  open Laws L using (add-comm, add-assoc)
+  open Ring (L .ring) using (add-comm, add-assoc)
 
   -- the terms of a map hold bytes
   linear-raw : {n : ℕ} (ls : List ℕ) (p : Poly) → Raw n p → Raw n (linearRaw F ls p)
@@ -68,7 +68,7 @@ module _ (F : Ops) (L : Laws F) where
 
   -- terms inserted add their coefficients
   coef-into : (p q : Poly) (x : List ℕ) → coef F (into F p q) x ≡ add (coef F p x) (coef F q x)
-  coef-into [] q x = sym (zero-add F L (coef F q x))
+  coef-into [] q x = sym (zero-add (L .ring) (coef F q x))
   coef-into (term c e ∷ p) q x =
       coef-insert F L c e (into F p q) x ∙ ap (add (only (order e x) c)) (coef-into p q x)
       ∙ sym (add-assoc (only (order e x) c) (coef F p x) (coef F q x))
@@ -77,8 +77,8 @@ module _ (F : Ops) (L : Laws F) where
   coef-scale-zero : (p : Poly) (x : List ℕ) → coef F (scale F 0 [] p) x ≡ 0
   coef-scale-zero [] x = refl
   coef-scale-zero (term d f ∷ p) x =
-      ap₂ add (ap (only (order f x)) (mul-zero-left F L d) ∙ only-zero F L (order f x)) (coef-scale-zero p x)
-      ∙ zero-add F L 0
+      ap₂ add (ap (only (order f x)) (mul-zero-left (L .ring) d) ∙ only-zero F L (order f x)) (coef-scale-zero p x)
+      ∙ zero-add (L .ring) 0
 
   -- the terms of a coefficient of zero may be left out
   coef-unless : (l : ℕ) (p : Poly) (x : List ℕ) → coef F (unlessZero l (scale F l [] p)) x ≡ coef F (scale F l [] p) x

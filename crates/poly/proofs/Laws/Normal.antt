@@ -5,12 +5,12 @@ use mathlib.Core.List.{List, [], _∷_, _++_}
 use Prim.Native.Nat.{ℕ, zero, suc, _<_, Ordering, Ordering·lt, Ordering·eq, Ordering·gt}
 use native.Mathlib.Omega.{arith}
 use native.Mathlib.Nat.{zero-lt-suc}
-use Rattle.field.specs.Laws.{Ops, Laws}
+use Rattle.field.specs.Laws.{Ops, Laws, Ring}
 use Rattle.poly.specs.Poly.{term, Poly, order, keep, place, insert, normal}
 use Rattle.poly.specs.Value.{only, total, coef}
 use Rattle.poly.specs.Canon.{ByteList, Powers, Coefs, Above, Sorted, Byte, NonzeroByte, Canon, Raw}
 use Rattle.poly.proofs.Laws.Order.{order-self, order-same, order-gt, order-lt, order-trans}
-use Rattle.poly.proofs.Laws.Algebra.{zero-add, add-left-comm, add-cancel}
+use Rattle.field.proofs.Laws.Algebra.{zero-add, add-left-comm, add-cancel}
 
 -- ---- the order of a list's heads
 
@@ -138,7 +138,7 @@ module _ (F : Ops) where
 
 module _ (F : Ops) (L : Laws F) where
   open Ops F using (add, mul)
-  open Laws L using (add-byte, add-assoc, add-zero)
+  open Ring (L .ring) using (add-byte, add-assoc, add-zero)
 
   -- a term placed leaves the coefficients nonzero bytes
   place-coefs : (o : Ordering) (c : ℕ) (e : List ℕ) (d : ℕ) (f : List ℕ) (p r : Poly) → c < 256 → NonzeroByte d
@@ -176,7 +176,7 @@ module _ (F : Ops) (L : Laws F) where
       (w-add : (c d : ℕ) (e : List ℕ) → w (add c d) e ≡ add (w c e) (w d e)) where
     -- a term in front adds its weight
     pub keep-total : (c : ℕ) (e : List ℕ) (p : Poly) → total F w (keep c e p) ≡ add (w c e) (total F w p)
-    keep-total zero e p = sym (ap (λ (x : ℕ). add x (total F w p)) (w-zero e) ∙ zero-add F L (total F w p))
+    keep-total zero e p = sym (ap (λ (x : ℕ). add x (total F w p)) (w-zero e) ∙ zero-add (L .ring) (total F w p))
     keep-total (suc c) e p = refl
 
     -- a term placed adds its weight
@@ -190,7 +190,7 @@ module _ (F : Ops) (L : Laws F) where
         ∙ add-assoc (w c e) (w d e) (total F w p)
         ∙ ap (λ (x : List ℕ). add (w c e) (add (w d x) (total F w p))) (order-same e f h)
     place-total Ordering·gt c e d f p r h ih =
-        ap (λ (x : ℕ). add (w d f) x) ih ∙ add-left-comm F L (w d f) (w c e) (total F w p)
+        ap (λ (x : ℕ). add (w d f) x) ih ∙ add-left-comm (L .ring) (w d f) (w c e) (total F w p)
 
     -- a term inserted adds its weight
     pub insert-total : (c : ℕ) (e : List ℕ) (p : Poly) → total F w (insert F c e p) ≡ add (w c e) (total F w p)
@@ -204,7 +204,7 @@ module _ (F : Ops) (L : Laws F) where
 
   -- the sum over two lists joined
   pub total-append : (w : ℕ → List ℕ → ℕ) (p q : Poly) → total F w (p ++ q) ≡ add (total F w p) (total F w q)
-  total-append w [] q = sym (zero-add F L (total F w q))
+  total-append w [] q = sym (zero-add (L .ring) (total F w q))
   total-append w (term c e ∷ p) q =
       ap (λ (x : ℕ). add (w c e) x) (total-append w p q) ∙ sym (add-assoc (w c e) (total F w p) (total F w q))
 
@@ -271,7 +271,7 @@ module _ (F : Ops) (L : Laws F) where
       let r = heads (order e f) c d e f p q refl (hp .0 .0) (hq .0 .0) s t h in
       ap₂ _∷_ (ap₂ term (r .0) (r .1))
       (same-coefs p q (s .1) (t .1) (hp .1) (hq .1) (λ x.
-      add-cancel F L (only (order e x) c) (coef F p x) (coef F q x)
+      add-cancel (L .ring) (only (order e x) c) (coef F p x) (coef F q x)
       (h x ∙ ap₂ (λ (k : ℕ) (g : List ℕ). add (only (order g x) k) (coef F q x)) (sym (r .0)) (sym (r .1)))))
 
   -- two lists of terms have one normal form where their coefficients are the same

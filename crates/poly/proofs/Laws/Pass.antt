@@ -3,7 +3,7 @@
 use mathlib.Core.Path.{_≡_, refl, sym, ap, _∙_, subst}
 use mathlib.Core.List.{List, [], _∷_}
 use Prim.Native.Nat.{ℕ, _<_, Ordering, Ordering·lt, Ordering·eq, Ordering·gt}
-use Rattle.field.specs.Laws.{Ops, Laws}
+use Rattle.field.specs.Laws.{Ops, Laws, Ring}
 use Rattle.poly.specs.Poly.{term, Poly, order, keep, normal}
 use Rattle.poly.specs.Value.{only, total, coef}
 use Rattle.poly.specs.Canon.{Coefs, Above, Sorted, Byte, NonzeroByte, Raw}
@@ -58,7 +58,7 @@ module _ (F : Ops) where
 
 module _ (F : Ops) (L : Laws F) where
   open Ops F using (add, mul)
-  open Laws L using (add-byte, add-assoc)
+  open Ring (L .ring) using (add-byte, add-assoc)
 
   -- the result's coefficients are nonzero bytes
   gather-coefs : (c : ℕ) (e : List ℕ) (q : Poly) → c < 256 → Coefs Byte q → Coefs NonzeroByte (gather F c e q)

@@ -10,7 +10,7 @@ use borrow.Author.Tests.{lt-ltb, le-ltb}
 use Rattle.field.specs.Field.{power}
 use Rattle.field.specs.Laws.{Ops, Laws}
 use Rattle.poly.specs.Poly.{pick, reduce}
-use Rattle.poly.proofs.Laws.Algebra.{pow-less}
+use Rattle.field.proofs.Laws.Algebra.{pow-less}
 
 -- a power up to 255 stays
 pub reduce-same : (e : ℕ) → e ≤ 255 → reduce e ≡ e
@@ -57,7 +57,7 @@ module _ (F : Ops) (L : Laws F) (a : ℕ) (h : a < 256) where
       ap (power mul a) s
   pow-turns (suc q) r =
       let s : suc (r + suc q * 255) ≡ 256 + (r + q * 255) = omega (arith, suc-mul q 255) in
-      ap (power mul a) s ∙ pow-less F L a (r + q * 255) h ∙ pow-turns q r
+      ap (power mul a) s ∙ pow-less L a (r + q * 255) h ∙ pow-turns q r
 
   -- THEOREM: a reduced power has the same value at every byte
   pub pow-reduce : (e : ℕ) → power mul a (reduce e) ≡ power mul a e
@@ -71,4 +71,4 @@ module _ (F : Ops) (L : Laws F) (a : ℕ) (h : a < 256) where
           let s : 256 + d ≡ e = omega arith in
           let u : suc (d % 255 + d / 255 * 255) ≡ suc d = omega arith in
           ap (power mul a) (reduce-above e k) ∙ sym (pow-turns (d / 255) (d % 255)) ∙ ap (power mul a) u
-          ∙ sym (pow-less F L a d h) ∙ ap (power mul a) s
+          ∙ sym (pow-less L a d h) ∙ ap (power mul a) s

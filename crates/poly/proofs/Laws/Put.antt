@@ -7,14 +7,14 @@ use native.Mathlib.Omega.{arith}
 use native.Mathlib.Nat.{le-of-suc-le-suc}
 use lib.ListN.{getD, set}
 use Rattle.field.specs.Field.{power}
-use Rattle.field.specs.Laws.{Ops, Laws}
+use Rattle.field.specs.Laws.{Ops, Laws, Ring}
 use Rattle.poly.specs.Poly.{term, Poly}
 use Rattle.poly.specs.Value.{mono, eval}
 use Rattle.poly.specs.First.{putSlotRaw, putSlot}
 use Rattle.poly.specs.Canon.{ByteList, Canon, Raw}
-use Rattle.poly.proofs.Laws.Algebra.{mul-left-comm, mono-byte}
+use Rattle.field.proofs.Laws.Algebra.{mul-left-comm}
 use Rattle.poly.proofs.Laws.Normal.{canon-raw, canon-normal}
-use Rattle.poly.proofs.Laws.Value.{eval-normal}
+use Rattle.poly.proofs.Laws.Value.{mono-byte, eval-normal}
 
 -- n bytes with one of them replaced by a byte
 pub set-bytes : (n i a : ℕ) (e : List ℕ) → a ≤ 255 → ByteList n e → ByteList n (set e i a)
@@ -26,7 +26,7 @@ set-bytes (suc n) (suc i) a (k ∷ e) l h = (h .0, set-bytes n i a e l (h .1))
 
 module _ (F : Ops) (L : Laws F) where
   open Ops F using (add, mul)
-  open Laws L using (mul-byte, mul-assoc, one-mul)
+  open Ring (L .ring) using (mul-byte, mul-assoc, one-mul)
 
   -- the terms with the byte put in hold bytes
   pub putSlot-raw : {n : ℕ} (i a : ℕ) (p : Poly) → Raw n p → Raw n (putSlotRaw F i a p)
@@ -52,7 +52,7 @@ module _ (F : Ops) (L : Laws F) where
   mono-set (suc v) i a (k ∷ e) [] l h = absurd h
   mono-set (suc v) zero a (k ∷ e) (x ∷ xs) l h = ap (mul (power mul a k)) (one-mul (mono F e xs) (mono-byte F L e xs))
   mono-set (suc v) (suc i) a (k ∷ e) (x ∷ xs) l h =
-      mul-left-comm F L (power mul a (getD e i 0)) (power mul x k) (mono F (set e i 0) xs)
+      mul-left-comm (L .ring) (power mul a (getD e i 0)) (power mul x k) (mono F (set e i 0) xs)
       ∙ ap (mul (power mul x k)) (mono-set v i a e xs (le-of-suc-le-suc l) (h .1))
 
   -- the same for a list of terms

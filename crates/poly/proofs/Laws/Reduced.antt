@@ -6,7 +6,7 @@ use Prim.Native.Nat.{ℕ, zero, suc, _+_, _<_, zero-le}
 use native.Mathlib.Omega.{arith}
 use lib.ListN.{replicate}
 use Rattle.field.specs.Field.{power}
-use Rattle.field.specs.Laws.{Ops, Laws}
+use Rattle.field.specs.Laws.{Ops, Laws, Ring}
 use Rattle.poly.specs.Poly.{term, Poly, addPows, constant, unit, variable, addPoly, scale, mulRaw}
 use Rattle.poly.specs.Poly.{mulPoly, square, linearRaw, mapPoly}
 use Rattle.poly.specs.First.{putRaw, put}
@@ -170,7 +170,7 @@ module _ (F : Ops) where
 
 module _ (F : Ops) (L : Laws F) where
   open Ops F using (add, mul)
-  open Laws L using (mul-byte)
+  open Ring (L .ring) using (mul-byte)
 
   -- the coefficients of a product with a term are bytes
   scale-coefs : (c : ℕ) (e : List ℕ) (q : Poly) → Coefs Byte (scale F c e q)

@@ -7,9 +7,9 @@ use Prim.Native.Nat.{ℕ, suc, _≤_, _<_}
 use native.Mathlib.Omega.{arith}
 use native.Mathlib.Nat.{le-of-suc-le-suc, zero-lt-suc}
 use lib.ListN.{length}
-use Rattle.field.specs.Laws.{Ops, Laws}
-use Rattle.poly.proofs.Laws.Algebra.{zero-add, add-swap, add-same, add-twice, mul-zero, mul-left-comm}
-use Rattle.poly.proofs.Laws.Algebra.{distrib-right}
+use Rattle.field.specs.Laws.{Ops, Laws, Ring}
+use Rattle.field.proofs.Laws.Algebra.{zero-add, add-swap, add-same, add-twice, mul-zero, mul-left-comm}
+use Rattle.field.proofs.Laws.Algebra.{distrib-right}
 
 -- each number of a list has P
 abbrev pub Each : (ℕ → Type 0) → List ℕ → Type 0
@@ -59,7 +59,7 @@ module _ (F : Ops) where
 
 module _ (F : Ops) (L : Laws F) where
   open Ops F using (add, mul)
-  open Laws L using (add-byte, add-comm, add-assoc, add-zero, add-self, mul-byte, mul-comm, mul-assoc, distrib, no-zero)
+  open Ring (L .ring) using (add-byte, add-comm, add-assoc, add-zero, add-self, mul-byte, mul-comm, mul-assoc, distrib)
 
   -- the value is a byte
   horner-byte : (cs : List ℕ) (x : ℕ) → AllBytes cs → horner F cs x < 256
@@ -74,31 +74,34 @@ module _ (F : Ops) (L : Laws F) where
   -- zero coefficients give zero
   horner-zero : (cs : List ℕ) (x : ℕ) → AllZero cs → horner F cs x ≡ 0
   horner-zero [] x h = refl
-  horner-zero (c ∷ cs) x h = ap₂ add (h .0) (ap (mul x) (horner-zero cs x (h .1)) ∙ mul-zero F L x) ∙ add-zero 0
+  horner-zero (c ∷ cs) x h = ap₂ add (h .0) (ap (mul x) (horner-zero cs x (h .1)) ∙ mul-zero (L .ring) x) ∙ add-zero 0
 
   -- where c + x·u is v at x and c + r·w is z at r, the difference of the two is that of x·u and r·w
   differ : (c a b : ℕ) → add (add c a) (add c b) ≡ add a b
-  differ c a b = add-swap F L c a c b ∙ ap (λ (x : ℕ). add x (add a b)) (add-self c) ∙ zero-add F L (add a b)
+  differ c a b = add-swap (L .ring) c a c b ∙ ap (λ (x : ℕ). add x (add a b)) (add-self c)
+      ∙ zero-add (L .ring) (add a b)
 
   -- x·v + r·z is (x + r)·z + x·(v + z)
   regroup : (x r v z : ℕ) → add (mul x v) (mul r z) ≡ add (mul (add x r) z) (mul x (add v z))
   regroup x r v z =
       sym (
-      ap₂ add (distrib-right F L x r z) (distrib x v z)
+      ap₂ add (distrib-right (L .ring) x r z) (distrib x v z)
       ∙ ap₂ add (add-comm (mul x z) (mul r z)) (add-comm (mul x v) (mul x z))
       ∙ add-assoc (mul r z) (mul x z) (add (mul x z) (mul x v))
-      ∙ ap (add (mul r z)) (add-twice F L (mul x z) (mul x v))
+      ∙ ap (add (mul r z)) (add-twice (L .ring) (mul x z) (mul x v))
       ∙ add-comm (mul r z) (mul x v))
 
   -- x·cs(x) + r·cs(r) is (x + r) times the quotient
   divided : (r x : ℕ) (cs : List ℕ) → add (mul x (horner F cs x)) (mul r (horner F cs r))
       ≡ mul (add x r) (horner F (divide F r cs) x)
-  divided r x [] = ap₂ add (mul-zero F L x) (mul-zero F L r) ∙ add-zero 0 ∙ sym (mul-zero F L (add x r))
+  divided r x [] = ap₂ add (mul-zero (L .ring) x) (mul-zero (L .ring) r) ∙ add-zero 0
+      ∙ sym (mul-zero (L .ring) (add x r))
   divided r x (c ∷ cs) =
       regroup x r (horner F (c ∷ cs) x) (horner F (c ∷ cs) r)
       ∙ ap (λ (y : ℕ). add (mul (add x r) (horner F (c ∷ cs) r)) (mul x y))
       (differ c (mul x (horner F cs x)) (mul r (horner F cs r)) ∙ divided r x cs)
-      ∙ ap (add (mul (add x r) (horner F (c ∷ cs) r))) (mul-left-comm F L x (add x r) (horner F (divide F r cs) x))
+      ∙ ap (add (mul (add x r) (horner F (c ∷ cs) r)))
+      (mul-left-comm (L .ring) x (add x r) (horner F (divide F r cs) x))
       ∙ sym (distrib (add x r) (horner F (c ∷ cs) r) (mul x (horner F (divide F r cs) x)))
 
   -- a quotient of zeros came of zeros
@@ -106,15 +109,15 @@ module _ (F : Ops) (L : Laws F) where
   divide-zero r [] h = tt
   divide-zero r (c ∷ cs) h =
       let t = divide-zero r cs (h .1) in
-      (sym (add-zero c) ∙ ap (add c) (sym (ap (mul r) (horner-zero cs r t) ∙ mul-zero F L r)) ∙ h .0, t)
+      (sym (add-zero c) ∙ ap (add c) (sym (ap (mul r) (horner-zero cs r t) ∙ mul-zero (L .ring) r)) ∙ h .0, t)
 
   -- another root is a root of the quotient
   root-left : (r c : ℕ) (cs : List ℕ) → r < 256 → AllBytes cs → horner F (c ∷ cs) r ≡ 0
       → (s : ℕ) → (s < 256) × (r ≢ s) → horner F (c ∷ cs) s ≡ 0 → horner F (divide F r cs) s ≡ 0
   root-left r c cs hr hc zr s hs zs =
-      no-zero (add s r) (horner F (divide F r cs) s) (add-byte (hs .0) hr)
+      L .no-zero (add s r) (horner F (divide F r cs) s) (add-byte (hs .0) hr)
       (horner-byte (divide F r cs) s (divide-bytes r cs hc))
-      (λ e. hs .1 (sym (add-same F L s r e)))
+      (λ e. hs .1 (sym (add-same (L .ring) s r e)))
       (sym (divided r s cs) ∙ sym (differ c (mul s (horner F cs s)) (mul r (horner F cs r))) ∙ ap₂ add zs zr
       ∙ add-zero 0)
 
@@ -129,4 +132,4 @@ module _ (F : Ops) (L : Laws F) where
       (subst (λ (k : ℕ). k ≤ length rs) (sym (length-divide F r cs)) (le-of-suc-le-suc l))
       (each-zip (root-left r c cs (hr .0) (hc .1) (z .0)) rs (each-zip (λ s h k. (h, k)) rs (hr .1) (d .0)) (z .1)) in
       let t = divide-zero r cs q in
-      (sym (add-zero c) ∙ ap (add c) (sym (ap (mul r) (horner-zero cs r t) ∙ mul-zero F L r)) ∙ z .0, t)
+      (sym (add-zero c) ∙ ap (add c) (sym (ap (mul r) (horner-zero cs r t) ∙ mul-zero (L .ring) r)) ∙ z .0, t)

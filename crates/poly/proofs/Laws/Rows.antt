@@ -9,12 +9,12 @@ use native.Mathlib.Omega.{arith}
 use native.Mathlib.Nat.{le-of-suc-le-suc, zero-lt-suc}
 use lib.ListN.{length}
 use Rattle.field.specs.Field.{power}
-use Rattle.field.specs.Laws.{Ops, Laws}
+use Rattle.field.specs.Laws.{Ops, Laws, Ring}
 use Rattle.poly.specs.Poly.{term, Poly, orElse, order}
 use Rattle.poly.specs.Value.{only, coef}
 use Rattle.poly.specs.First.{putRaw, put}
 use Rattle.poly.specs.Canon.{Within, Powers, Coefs, Byte, Canon, Some}
-use Rattle.poly.proofs.Laws.Algebra.{zero-add, add-swap, mul-zero, mul-one, mul-left-comm}
+use Rattle.field.proofs.Laws.Algebra.{zero-add, add-swap, mul-zero, mul-one, mul-left-comm}
 use Rattle.poly.proofs.Laws.Normal.{coef-normal, coef-head, canon-raw}
 use Rattle.poly.proofs.Laws.Roots.{Each, AllZero, AllBytes, Different, horner, roots, each-map}
 
@@ -46,7 +46,7 @@ dense-same (suc d) f g h = ap₂ _∷_ (h 0) (dense-same d (λ k. f (suc k)) (λ
 
 module _ (F : Ops) (L : Laws F) where
   open Ops F using (add, mul)
-  open Laws L using (add-byte, add-zero, distrib)
+  open Ring (L .ring) using (add-byte, add-zero, distrib)
 
   -- a coefficient or zero is a byte
   only-byte : (o : Ordering) (c : ℕ) → c < 256 → only o c < 256
@@ -64,7 +64,8 @@ module _ (F : Ops) (L : Laws F) where
   -- zeros everywhere give zero
   horner-none : (d x : ℕ) → horner F (dense d (λ k. 0)) x ≡ 0
   horner-none zero x = refl
-  horner-none (suc d) x = ap (λ (y : ℕ). add 0 (mul x y)) (horner-none d x) ∙ ap (add 0) (mul-zero F L x) ∙ add-zero 0
+  horner-none (suc d) x = ap (λ (y : ℕ). add 0 (mul x y)) (horner-none d x) ∙ ap (add 0) (mul-zero (L .ring) x)
+      ∙ add-zero 0
 
   -- the values of a sum
   horner-add : (d : ℕ) (f g : ℕ → ℕ) (x : ℕ) → horner F (dense d (λ k. add (f k) (g k))) x
@@ -74,7 +75,7 @@ module _ (F : Ops) (L : Laws F) where
       ap (λ (y : ℕ). add (add (f 0) (g 0)) (mul x y)) (horner-add d (λ k. f (suc k)) (λ k. g (suc k)) x)
       ∙ ap (add (add (f 0) (g 0))) (distrib x (horner F (dense d (λ k. f (suc k))) x)
       (horner F (dense d (λ k. g (suc k))) x))
-      ∙ add-swap F L (f 0) (g 0) (mul x (horner F (dense d (λ k. f (suc k))) x))
+      ∙ add-swap (L .ring) (f 0) (g 0) (mul x (horner F (dense d (λ k. f (suc k))) x))
       (mul x (horner F (dense d (λ k. g (suc k))) x))
 
   -- one coefficient, at k
@@ -86,14 +87,14 @@ module _ (F : Ops) (L : Laws F) where
       (dense-same d (λ j. only (compare 0 (suc j)) c) (λ j. 0)
       (λ j. ap (λ (o : Ordering). only o c) (compare·zero-suc j)))
       ∙ ap (λ (y : ℕ). add c (mul x y)) (horner-none d x)
-      ∙ ap (add c) (mul-zero F L x) ∙ add-zero c ∙ sym (mul-one F L c l)
+      ∙ ap (add c) (mul-zero (L .ring) x) ∙ add-zero c ∙ sym (mul-one (L .ring) c l)
   horner-one (suc d) (suc k) c x h l =
       ap₂ (λ (o : Ordering) (t : List ℕ). add (only o c) (mul x (horner F t x))) (compare·suc-zero k)
       (dense-same d (λ j. only (compare (suc k) (suc j)) c) (λ j. only (compare k j) c)
       (λ j. ap (λ (o : Ordering). only o c) (compare·suc-suc k j)))
-      ∙ zero-add F L (mul x (horner F (dense d (λ j. only (compare k j) c)) x))
+      ∙ zero-add (L .ring) (mul x (horner F (dense d (λ j. only (compare k j) c)) x))
       ∙ ap (mul x) (horner-one d k c x (le-of-suc-le-suc h) l)
-      ∙ mul-left-comm F L x c (power mul x k)
+      ∙ mul-left-comm (L .ring) x c (power mul x k)
 
   -- ---- rows
 

@@ -10,7 +10,7 @@ use Rattle.field.specs.Laws.{Ops, Laws}
 use Rattle.poly.specs.Poly.{term, Poly, order, keep, place, insert, normal, constant, addPoly, scale, mulRaw}
 use Rattle.poly.specs.Poly.{mulPoly, square, linearRaw, mapPoly}
 use Rattle.poly.specs.Size.{oneIf, nonzeros, support}
-use Rattle.poly.proofs.Laws.Algebra.{zero-mul}
+use Rattle.field.proofs.Laws.Algebra.{zero-mul}
 
 -- it is 0 or 1
 pub one-most : (c : ℕ) → oneIf c ≤ 1
@@ -94,7 +94,7 @@ module _ (F : Ops) (L : Laws F) where
   scale-support : (l : ℕ) (e : List ℕ) (q : Poly) → support (scale F l e q) ≤ oneIf l * length q
   scale-support zero e [] = zero-le
   scale-support zero e (term d f ∷ q) =
-      let z : oneIf (mul 0 d) ≡ 0 = ap oneIf (zero-mul F L d) in
+      let z : oneIf (mul 0 d) ≡ 0 = ap oneIf (zero-mul (L .ring) d) in
       omega (arith, scale-support zero e q, nat-zero-mul (length q), nat-zero-mul (suc (length q)))
   scale-support (suc l) e q =
       omega (arith, support-length (scale F (suc l) e q), length-scale F (suc l) e q, nat-one-mul (length q))

@@ -5,7 +5,7 @@ use mathlib.Core.List.{List, [], _∷_, _++_}
 use Prim.Native.Nat.{ℕ, _+_, _≤_}
 use native.Mathlib.Omega.{arith}
 use lib.ListN.{length}
-use Rattle.field.specs.Laws.{Ops, Laws}
+use Rattle.field.specs.Laws.{Ops, Laws, Ring}
 use Rattle.poly.specs.Poly.{term, Poly, order, insert, into, normal, addPoly}
 use Rattle.poly.specs.Value.{only, coef}
 use Rattle.poly.specs.Canon.{ByteList, Byte, Canon, Raw, Sorted}
@@ -23,7 +23,7 @@ raw-append {n} p q h k = record {
 
 module _ (F : Ops) (L : Laws F) where
   open Ops F using (add, mul)
-  open Laws L using (add-comm, add-assoc)
+  open Ring (L .ring) using (add-comm, add-assoc)
 
   -- a normal form is a list of terms of bytes
   pub raw-normal : {n : ℕ} (p : Poly) → Raw n p → Raw n (normal F p)

@@ -5,12 +5,12 @@ use mathlib.Core.List.{List, [], _∷_, _++_}
 use Prim.Native.Nat.{ℕ, _≤_, _<_}
 use lib.ListN.{length}
 use native.Mathlib.Nat.{le-refl}
-use Rattle.field.specs.Laws.{Ops, Laws}
+use Rattle.field.specs.Laws.{Ops, Laws, Ring}
 use Rattle.poly.specs.Poly.{Poly, order, addPoly}
 use Rattle.poly.specs.Value.{only, coef, eval}
 use Rattle.poly.specs.First.{put, firstDiffering}
 use Rattle.poly.specs.Canon.{Within, ByteList, Spare, Powers, Canon, Some}
-use Rattle.poly.proofs.Laws.Algebra.{add-same}
+use Rattle.field.proofs.Laws.Algebra.{add-same}
 use Rattle.poly.proofs.Laws.Normal.{coef-normal, same-coefs, total-append}
 use Rattle.poly.proofs.Laws.Value.{eval-add, eval-put}
 use Rattle.poly.proofs.Laws.Reduced.{all-used, canon-add, canon-put, add-powers}
@@ -20,7 +20,7 @@ use Rattle.poly.proofs.Laws.First.{first-bytes, first-differs}
 
 module _ (F : Ops) (L : Laws F) where
   open Ops F using (add, mul)
-  open Laws L using (add-self)
+  open Ring (L .ring) using (add-self)
 
   -- no term is left where every value is zero
   pub vanishes : (v k n : ℕ) (p : Poly) → v ≤ n → Canon n p → Powers (Spare v k) p
@@ -34,7 +34,7 @@ module _ (F : Ops) (L : Laws F) where
   pub sum-none : {n : ℕ} (p q : Poly) → Canon n p → Canon n q → addPoly F p q ≡ [] → p ≡ q
   sum-none p q h k e =
       same-coefs F L p q (h .sorted) (k .sorted) (h .coefs) (k .coefs) (λ x.
-      add-same F L (coef F p x) (coef F q x)
+      add-same (L .ring) (coef F p x) (coef F q x)
       (sym (total-append F L (λ c f. only (order f x) c) p q) ∙ sym (coef-normal F L (p ++ q) x)
       ∙ ap (λ (r : Poly). coef F r x) e))
 

@@ -7,20 +7,25 @@ use native.Mathlib.Omega.{arith}
 use native.Mathlib.Nat.{le-of-suc-le-suc}
 use lib.ListN.{replicate, getD}
 use Rattle.field.specs.Field.{power}
-use Rattle.field.specs.Laws.{Ops, Laws}
+use Rattle.field.specs.Laws.{Ops, Laws, Ring}
 use Rattle.poly.specs.Poly.{term, Poly, addPows, normal, constant, unit, variable, addPoly, scale, mulRaw}
 use Rattle.poly.specs.Poly.{mulPoly, square, linearRaw, mapPoly}
 use Rattle.poly.specs.Value.{mono, eval, linear, mapByte}
 use Rattle.poly.specs.First.{putRaw, put}
 use Rattle.poly.specs.Canon.{ByteList}
-use Rattle.poly.proofs.Laws.Algebra.{zero-mul, mul-zero, mul-one, distrib-right, mul-swap, square-add, pow-add}
-use Rattle.poly.proofs.Laws.Algebra.{mono-byte}
+use Rattle.field.proofs.Laws.Algebra.{zero-mul, mul-zero, mul-one, distrib-right, mul-swap, square-add, pow-add}
 use Rattle.poly.proofs.Laws.Power.{pow-reduce}
 use Rattle.poly.proofs.Laws.Normal.{normal-total, total-append}
 
 module _ (F : Ops) (L : Laws F) where
   open Ops F using (add, mul)
-  open Laws L using (add-byte, add-assoc, add-zero, mul-byte, mul-comm, mul-assoc, distrib, one-mul)
+  open Ring (L .ring) using (add-byte, add-assoc, add-zero, mul-byte, mul-comm, mul-assoc, distrib, one-mul)
+
+  -- a product of powers is a byte
+  pub mono-byte : (e xs : List ℕ) → mono F e xs < 256
+  mono-byte [] xs = omega arith
+  mono-byte (k ∷ e) [] = omega arith
+  mono-byte (k ∷ e) (x ∷ xs) = mul-byte (power mul x k) (mono F e xs)
 
   -- a value is a byte
   pub eval-byte : (p : Poly) (xs : List ℕ) → eval F p xs < 256
@@ -32,8 +37,8 @@ module _ (F : Ops) (L : Laws F) where
   -- the normal form has the same value
   pub eval-normal : (p : Poly) (xs : List ℕ) → eval F (normal F p) xs ≡ eval F p xs
   eval-normal p xs =
-      normal-total F L (λ d f. mul d (mono F f xs)) (λ f. zero-mul F L (mono F f xs))
-      (λ d d′ f. distrib-right F L d d′ (mono F f xs)) p
+      normal-total F L (λ d f. mul d (mono F f xs)) (λ f. zero-mul (L .ring) (mono F f xs))
+      (λ d d′ f. distrib-right (L .ring) d d′ (mono F f xs)) p
 
   -- the value of two lists joined
   pub eval-append : (p q : Poly) (xs : List ℕ) → eval F (p ++ q) xs ≡ add (eval F p xs) (eval F q xs)
@@ -43,14 +48,14 @@ module _ (F : Ops) (L : Laws F) where
 
   -- a product of powers: the powers of a product of terms
   mono-add : (n : ℕ) (e f xs : List ℕ) → ByteList n xs → mono F (addPows e f) xs ≡ mul (mono F e xs) (mono F f xs)
-  mono-add n [] f xs h = sym (one-mul (mono F f xs) (mono-byte F L f xs))
-  mono-add n (a ∷ e) [] xs h = sym (mul-one F L (mono F (a ∷ e) xs) (mono-byte F L (a ∷ e) xs))
+  mono-add n [] f xs h = sym (one-mul (mono F f xs) (mono-byte f xs))
+  mono-add n (a ∷ e) [] xs h = sym (mul-one (L .ring) (mono F (a ∷ e) xs) (mono-byte (a ∷ e) xs))
   mono-add n (a ∷ e) (b ∷ f) [] h = sym (one-mul 1 (omega arith))
   mono-add zero (a ∷ e) (b ∷ f) (x ∷ xs) h = absurd h
   mono-add (suc n) (a ∷ e) (b ∷ f) (x ∷ xs) h =
       let l : x < 256 = omega (arith, h .0) in
-      ap₂ mul (pow-reduce F L x l (a + b) ∙ pow-add F L x a b) (mono-add n e f xs (h .1))
-      ∙ mul-swap F L (power mul x a) (power mul x b) (mono F e xs) (mono F f xs)
+      ap₂ mul (pow-reduce F L x l (a + b) ∙ pow-add (L .ring) x a b) (mono-add n e f xs (h .1))
+      ∙ mul-swap (L .ring) (power mul x a) (power mul x b) (mono F e xs) (mono F f xs)
 
   -- powers of zero give 1
   mono-zeros : (n : ℕ) (xs : List ℕ) → mono F (replicate n 0) xs ≡ 1
@@ -61,29 +66,29 @@ module _ (F : Ops) (L : Laws F) where
   module _ (n : ℕ) (xs : List ℕ) (h : ByteList n xs) where
     -- the product with a term
     eval-scale : (c : ℕ) (e : List ℕ) (q : Poly) → eval F (scale F c e q) xs ≡ mul (mul c (mono F e xs)) (eval F q xs)
-    eval-scale c e [] = sym (mul-zero F L (mul c (mono F e xs)))
+    eval-scale c e [] = sym (mul-zero (L .ring) (mul c (mono F e xs)))
     eval-scale c e (term d f ∷ q) =
         ap₂ add
-        (ap (mul (mul c d)) (mono-add n e f xs h) ∙ mul-swap F L c d (mono F e xs) (mono F f xs))
+        (ap (mul (mul c d)) (mono-add n e f xs h) ∙ mul-swap (L .ring) c d (mono F e xs) (mono F f xs))
         (eval-scale c e q)
         ∙ sym (distrib (mul c (mono F e xs)) (mul d (mono F f xs)) (eval F q xs))
 
     -- the products of all terms
     eval-mulRaw : (p q : Poly) → eval F (mulRaw F p q) xs ≡ mul (eval F p xs) (eval F q xs)
-    eval-mulRaw [] q = sym (zero-mul F L (eval F q xs))
+    eval-mulRaw [] q = sym (zero-mul (L .ring) (eval F q xs))
     eval-mulRaw (term c e ∷ p) q =
         eval-append (scale F c e q) (mulRaw F p q) xs
         ∙ ap₂ add (eval-scale c e q) (eval-mulRaw p q)
-        ∙ sym (distrib-right F L (mul c (mono F e xs)) (eval F p xs) (eval F q xs))
+        ∙ sym (distrib-right (L .ring) (mul c (mono F e xs)) (eval F p xs) (eval F q xs))
 
     -- the square
     eval-square : (p : Poly) → eval F (square F p) xs ≡ mul (eval F p xs) (eval F p xs)
-    eval-square [] = sym (zero-mul F L 0)
+    eval-square [] = sym (zero-mul (L .ring) 0)
     eval-square (term c e ∷ p) =
         ap₂ add
-        (ap (mul (mul c c)) (mono-add n e e xs h) ∙ mul-swap F L c c (mono F e xs) (mono F e xs))
+        (ap (mul (mul c c)) (mono-add n e e xs h) ∙ mul-swap (L .ring) c c (mono F e xs) (mono F e xs))
         (eval-square p)
-        ∙ sym (square-add F L (mul c (mono F e xs)) (eval F p xs))
+        ∙ sym (square-add (L .ring) (mul c (mono F e xs)) (eval F p xs))
 
     -- the terms of a map
     eval-linearRaw : (ls : List ℕ) (p : Poly) → eval F (linearRaw F ls p) xs ≡ linear F ls (eval F p xs)
@@ -98,11 +103,12 @@ module _ (F : Ops) (L : Laws F) where
   pub eval-constant : (n c : ℕ) (xs : List ℕ) → c < 256 → eval F (constant n c) xs ≡ c
   eval-constant n zero xs h = refl
   eval-constant n (suc c) xs h =
-      add-zero (mul (suc c) (mono F (replicate n 0) xs)) ∙ ap (mul (suc c)) (mono-zeros n xs) ∙ mul-one F L (suc c) h
+      add-zero (mul (suc c) (mono F (replicate n 0) xs)) ∙ ap (mul (suc c)) (mono-zeros n xs)
+      ∙ mul-one (L .ring) (suc c) h
 
   -- the first power
   pow-one : (x : ℕ) → x < 256 → power mul x 1 ≡ x
-  pow-one x h = mul-one F L x h
+  pow-one x h = mul-one (L .ring) x h
 
   -- the powers of a variable give its byte
   mono-unit : (n v i : ℕ) (xs : List ℕ) → i < n → i < v → ByteList v xs → mono F (unit n i) xs ≡ getD xs i 0
@@ -111,9 +117,9 @@ module _ (F : Ops) (L : Laws F) where
   mono-unit (suc n) (suc v) i [] l m h = absurd h
   mono-unit (suc n) (suc v) zero (x ∷ xs) l m h =
       let k : x < 256 = omega (arith, h .0) in
-      ap₂ mul (pow-one x k) (mono-zeros n xs) ∙ mul-one F L x k
+      ap₂ mul (pow-one x k) (mono-zeros n xs) ∙ mul-one (L .ring) x k
   mono-unit (suc n) (suc v) (suc i) (x ∷ xs) l m h =
-      one-mul (mono F (unit n i) xs) (mono-byte F L (unit n i) xs)
+      one-mul (mono F (unit n i) xs) (mono-byte (unit n i) xs)
       ∙ mono-unit n v i xs (le-of-suc-le-suc l) (le-of-suc-le-suc m) (h .1)
 
   -- ---- THEOREMS: the value of each operation is the operation on the values
@@ -121,7 +127,7 @@ module _ (F : Ops) (L : Laws F) where
   -- the value of a variable is its byte; a term has n powers, of which the first v are in use
   pub eval-variable : (n v i : ℕ) (xs : List ℕ) → i < n → i < v → ByteList v xs → eval F (variable n i) xs ≡ getD xs i 0
   eval-variable n v i xs l m h =
-      add-zero (mul 1 (mono F (unit n i) xs)) ∙ one-mul (mono F (unit n i) xs) (mono-byte F L (unit n i) xs)
+      add-zero (mul 1 (mono F (unit n i) xs)) ∙ one-mul (mono F (unit n i) xs) (mono-byte (unit n i) xs)
       ∙ mono-unit n v i xs l m h
 
   -- the sum

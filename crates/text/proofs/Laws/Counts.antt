@@ -38,7 +38,6 @@ module _ (s : List ℕ) (r : answer.Reading) (R : ReadingIs r (readText s)) (z :
   reading-limited = reading-keeps Limited read-limited
 
   -- so are the counts of the code's arrays
-
   pub reading-counted : Counted (r .routine)
   unfolding routineOf
   reading-counted =

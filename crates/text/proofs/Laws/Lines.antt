@@ -7,14 +7,14 @@ use mathlib.Core.List.{List, [], _∷_}
 use native.Mathlib.Omega.{arith}
 use lib.Dec.{eqb}
 use lib.ListN.{length, take, drop, length-drop, drop-of-length-le}
-use lib.Seq.{drop-drop}
 use Rattle.grammar.specs.Ascii.{lineFeed, all, allowed}
 use Rattle.grammar.specs.Split.{before, pieces}
 use Rattle.text.specs.State.{State}
 use Rattle.text.specs.Order.{atEnd}
 use Rattle.text.specs.Read.{Reading, refused, accepted, Outcome, stop, next, takeLine, takeLast, follow}
 use Rattle.text.specs.Read.{takeLines, routine}
-use Rattle.grammar.proofs.Laws.Pieces.{pieces-cut, pieces-whole, some-piece}
+use Rattle.grammar.proofs.Laws.Pieces.{pieces-whole, some-piece}
+use Rattle.grammar.proofs.Laws.Lines.{piece-cut}
 
 -- one line, ended, with what it leads to, before the lines ps
 stops : (st : State) (n e : ℕ) (l : List ℕ) (ps : List (List ℕ)) → 0 < length ps → takeLine st (n + 1) l ≡ stop e
@@ -39,16 +39,7 @@ module _ (st : State) (n : ℕ) (s : List ℕ) (at end : ℕ) (e : end ≡ at + 
     (i : x ≡ takeLines st n (pieces lineFeed (drop at s))) where
   cut-line : end < length s → pieces lineFeed (drop at s) ≡ take (end - at) (drop at s) ∷ pieces lineFeed
       (drop (end + 1) s)
-  cut-line h =
-      let t : List ℕ = drop at s in
-      let m : ℕ = before lineFeed t in
-      let inside : m < length t = omega (arith, length-drop at s) in
-      let there : at + (m + 1) ≡ end + 1 = omega arith in
-      let size : m ≡ end - at = omega arith in
-      pieces-cut lineFeed t inside
-      ∙ ap (λ (k : ℕ). take k t ∷ pieces lineFeed (drop (m + 1) t)) size
-      ∙ ap (λ (u : List ℕ). take (end - at) t ∷ pieces lineFeed u) (drop-drop (m + 1) at s
-      ∙ ap (λ (k : ℕ). drop k s) there)
+  cut-line h = piece-cut lineFeed s at end e h
 
   -- the line is refused
   pub line-stops : (r : ℕ) → end < length s → takeLine st (n + 1) (take (end - at) (drop at s)) ≡ stop r

@@ -24,11 +24,11 @@ pub bytes-closed : {m : ℕ} → Modulus m → Closed (bytes m) IsByte
 unfolding bytes
 bytes-closed {m} M = record {
   byte = λ c h. h;
-  add = λ x y h k. gf-laws M .add-byte h k;
-  mul = λ x y h k. gf-laws M .mul-byte x y;
+  add = λ x y h k. gf-laws M .ring .add-byte h k;
+  mul = λ x y h k. gf-laws M .ring .mul-byte x y;
   apply = λ f F x h.
       subst IsByte (sym (coefficients-represent M (f .constant) (f .columns) (columns-bytes F) x h))
-      (gf-laws M .add-byte (F .constant) (series-lt (periodic M .ring) (coefficientsOf m (f .columns)) x));
+      (gf-laws M .ring .add-byte (F .constant) (series-lt (periodic M .ring) (coefficientsOf m (f .columns)) x));
 }
 
 -- ---- n bytes: a length, and a bound for each

@@ -1,34 +1,20 @@
 -- What follows from the field's laws: sums regrouped, zero, one, and powers, of which one above 255 is the power less
 -- 255. Assumes nothing.
 use mathlib.Core.Path.{_≡_, refl, sym, ap, ap₂, _∙_}
-use mathlib.Core.List.{List, [], _∷_}
 use Prim.Native.Nat.{ℕ, zero, suc, _+_, _<_}
 use native.Mathlib.Omega.{arith}
 use native.Mathlib.Nat.{suc-add, zero-add as nat-zero-add}
 use Rattle.field.specs.Field.{power, squared}
-use Rattle.field.specs.Laws.{Ops, Laws}
-use Rattle.poly.specs.Value.{mono}
+use Rattle.field.specs.Laws.{Ops, Ring, Laws}
 
 -- m doubled n times over
 abbrev doubled : ℕ → ℕ → ℕ
 doubled zero m = m
 doubled (suc n) m = doubled n (m + m)
 
-module _ (F : Ops) (L : Laws F) where
+module _ {F : Ops} (R : Ring F) where
   open Ops F using (add, mul)
-  open Laws L using (
-    add-byte,
-    add-comm,
-    add-assoc,
-    add-zero,
-    add-self,
-    mul-byte,
-    mul-comm,
-    mul-assoc,
-    distrib,
-    one-mul,
-    eight-squares,
-  )
+  open Ring R using (add-comm, add-assoc, add-zero, add-self, mul-byte, mul-comm, mul-assoc, distrib, one-mul)
 
   -- zero on the left
   pub zero-add : (a : ℕ) → add 0 a ≡ a
@@ -107,16 +93,13 @@ module _ (F : Ops) (L : Laws F) where
   squared-pow zero m a = refl
   squared-pow (suc n) m a = ap (squared mul n) (sym (pow-add a m m)) ∙ squared-pow n (m + m) a
 
+module _ {F : Ops} (L : Laws F) where
+  open Ops F using (mul)
+
   -- Fermat: a to the 256th is a
   pub pow-256 : (a : ℕ) → a < 256 → power mul a 256 ≡ a
-  pow-256 a h = sym (squared-pow 8 1 a) ∙ ap (squared mul 8) (mul-one a h) ∙ eight-squares a h
+  pow-256 a h = sym (squared-pow (L .ring) 8 1 a) ∙ ap (squared mul 8) (mul-one (L .ring) a h) ∙ L .eight-squares a h
 
   -- a power above 255 has the value of the power less 255
   pub pow-less : (a k : ℕ) → a < 256 → power mul a (256 + k) ≡ power mul a (suc k)
-  pow-less a k h = pow-add a 256 k ∙ ap (λ (x : ℕ). mul x (power mul a k)) (pow-256 a h)
-
-  -- a product of powers is a byte
-  pub mono-byte : (e xs : List ℕ) → mono F e xs < 256
-  mono-byte [] xs = omega arith
-  mono-byte (k ∷ e) [] = omega arith
-  mono-byte (k ∷ e) (x ∷ xs) = mul-byte (power mul x k) (mono F e xs)
+  pow-less a k h = pow-add (L .ring) a 256 k ∙ ap (λ (x : ℕ). mul x (power mul a k)) (pow-256 a h)

@@ -1,0 +1,35 @@
+-- Reading on from the start of a text is reading the text. Assumes nothing.
+use Prim.Native.Nat.{ℕ}
+use native.Mathlib.Omega.{arith}
+use mathlib.Core.Path.{_≡_, ap, subst}
+use mathlib.Core.Bool.{cond}
+use mathlib.Core.List.{List}
+use lib.Dec.{ltb}
+use lib.ListN.{length, drop}
+use denote.Ref.{RefT, now}
+use Rattle.grammar.specs.declared.cursor.Cursor.{Cursor}
+use Rattle.grammar.specs.declared.reader.Reader.{Reader}
+use Rattle.grammar.specs.Handed.{opened}
+use Rattle.grammar.specs.Ascii.{lineFeed}
+use Rattle.grammar.specs.Split.{pieces}
+use Rattle.grammar.proofs.Laws.Handed.{placed-same}
+use Rattle.text.specs.Limits.{mostBytes}
+use Rattle.text.specs.State.{start}
+use Rattle.text.specs.declared.read.Reading as answer
+use Rattle.text.specs.Read.{Reading, refused, takeLines, readText}
+use Rattle.text.specs.Reading.{ReadingIs}
+use Rattle.text.specs.From.{readFrom, ReadsOn}
+
+-- from the start on, the lines of a text give what the text gives
+pub read-start : (s : List ℕ) → readFrom s 0 0 ≡ readText s
+unfolding readFrom readText
+read-start s =
+    ap (λ (p : Cursor). cond (ltb mostBytes (length s)) (refused 2 0)
+    (takeLines start (p .line) (pieces lineFeed (drop (p .at) s))))
+    (placed-same s (record { at = 0; line = 0 }) (omega arith) (omega arith))
+
+-- a reader opened on a text reads what the text gives
+pub opened-reads : (s : RefT (List ℕ)) (r : Reader) (d : answer.Reading) → r ≡ opened s → ReadsOn r d
+    → ReadingIs d (readText (now s))
+opened-reads s r d e R =
+    subst (λ (x : Reading). ReadingIs d x) (read-start (now s)) (subst (λ (q : Reader). ReadsOn q d) e R)

@@ -1,0 +1,29 @@
+-- Reading on from a place of a text: what a reader that stands there reads. Assumes nothing.
+use Prim.Native.Nat.{ℕ}
+use mathlib.Core.Bool.{cond}
+use mathlib.Core.List.{List}
+use lib.Dec.{ltb}
+use lib.ListN.{length, drop}
+use denote.Ref.{now}
+use Rattle.grammar.specs.Ascii.{lineFeed}
+use Rattle.grammar.specs.Split.{pieces}
+use Rattle.grammar.specs.declared.reader.Reader.{Reader}
+use Rattle.grammar.specs.Reader.{placed}
+use Rattle.text.specs.Limits.{mostBytes}
+use Rattle.text.specs.State.{start}
+use Rattle.text.specs.Read.{Reading, refused, takeLines}
+use Rattle.text.specs.Reading.{ReadingIs}
+use Rattle.text.specs.declared.read.Reading as answer
+
+-- what the lines from a place on give, the place brought within the text
+abbrev pub linesFrom : List ℕ → ℕ → ℕ → Reading
+linesFrom s at line =
+    takeLines start (placed s at line .line) (pieces lineFeed (drop (placed s at line .at) s))
+
+-- Refusal 2, at line 0; or what the lines from a place on give.
+unfoldable pub readFrom : List ℕ → ℕ → ℕ → Reading
+readFrom s at line = cond (ltb mostBytes (length s)) (refused 2 0) (linesFrom s at line)
+
+-- the whole outcome of reading on from a reader
+abbrev pub ReadsOn : Reader → answer.Reading → Type 0
+ReadsOn r d = ReadingIs d (readFrom (now (r .text)) (r .at) (r .line))
