@@ -13,7 +13,7 @@ pub struct Case {
 }
 
 // The case that begins at a place; what the end of the input cuts off ends there.
-pub fn case_at(s: &[u8], at: usize) -> Case
+pub(crate) fn case_at(s: &[u8], at: usize) -> Case
     requires { ⌜ at < length (now s) ⌝ }
     ensures { λ r. ⌜ Cut at r (length (now (s .entry))) ⌝ }
 {
@@ -26,7 +26,7 @@ pub fn case_at(s: &[u8], at: usize) -> Case
 }
 
 // Prints each case's name and the line of its text.
-pub fn print_cases(s: &[u8]) {
+pub(crate) fn print_cases(s: &[u8]) {
     let mut at = 0;
     // the cases before at are printed
     while at < s.len() {

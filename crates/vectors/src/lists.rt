@@ -9,7 +9,7 @@ const WORK: usize = 65280;
 const LIST: usize = 16;
 
 // Prints the answers for the first stored text, with each buffer at its least length and one below.
-pub fn print_lists(s: &[u8]) {
+pub(crate) fn print_lists(s: &[u8]) {
     if s.len() == 0 {
         return;
     }

@@ -7,7 +7,7 @@ use crate::show::print_word;
 use verdict::run::run;
 
 // Prints the S-box that the first stored text computes, one row for each high digit.
-pub fn print_run(s: &[u8]) {
+pub(crate) fn print_run(s: &[u8]) {
     if s.len() == 0 {
         return;
     }

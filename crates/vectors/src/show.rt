@@ -2,7 +2,7 @@
 use libc::STDOUT_FILENO;
 
 // Writes some bytes as they are.
-pub fn print_word(word: &[u8]) {
+pub(crate) fn print_word(word: &[u8]) {
     io::write_all(STDOUT_FILENO, word);
 }
 
@@ -17,7 +17,7 @@ fn digit(n: u8) -> u8 {
 }
 
 // Writes a tab and a byte's two hex digits.
-pub fn print_byte(byte: u8) {
+pub(crate) fn print_byte(byte: u8) {
     let high = digit(byte / 16);
     let low = digit(byte % 16);
     let pair: [u8; 3] = [b'\t', high, low];
@@ -25,12 +25,12 @@ pub fn print_byte(byte: u8) {
 }
 
 // Writes the hex digit of a number below 16.
-pub fn print_digit(n: u8) {
+pub(crate) fn print_digit(n: u8) {
     let one: [u8; 1] = [digit(n)];
     io::write_all(STDOUT_FILENO, &one);
 }
 
 // Ends a line.
-pub fn end_line() {
+pub(crate) fn end_line() {
     io::write_all(STDOUT_FILENO, b"\n");
 }

@@ -33,7 +33,7 @@ fn print_row(high: u8) {
 }
 
 // Prints the S-box, one row for each high digit.
-pub fn print_sbox() {
+pub(crate) fn print_sbox() {
     let mut high: u8 = 0;
     while high < 16 {
         print_row(high);
@@ -53,7 +53,7 @@ fn print_list(columns: [u8; 8]) {
 }
 
 // Prints the coefficients of the two maps of the rules.
-pub fn print_coefficients() {
+pub(crate) fn print_coefficients() {
     print_word(b"fips_map");
     print_list(FIPS_COLUMNS);
     print_word(b"square_map");
