@@ -1,11 +1,3 @@
-pub mod Scan
-pub mod Pieces
-pub mod Answers
-pub mod Same
 pub mod Each
 pub mod Fields
 pub mod Fits
-pub mod Ahead
-pub mod Handed
-pub mod Held
-pub mod Lines

@@ -1,13 +1,4 @@
-pub mod Ascii
-pub mod Limits
-pub mod Byte
-pub mod Split
-pub mod Token
 pub mod Record
-pub mod Answer
 pub mod Line
 pub mod Recorded
-pub mod Cursor
-pub mod Reader
-pub mod Handed
 pub mod Open

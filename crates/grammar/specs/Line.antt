@@ -9,9 +9,9 @@ use Rattle.grammar.specs.declared.line.NameRead.{NameRead}
 use Rattle.grammar.specs.declared.line.NameRead.the-variants as NameRead
 use Rattle.grammar.specs.declared.line.TermRead.{TermRead}
 use Rattle.grammar.specs.declared.line.TermRead.the-variants as TermRead
-use Rattle.grammar.specs.Ascii.{tab}
-use Rattle.grammar.specs.Split.{pieces}
-use Rattle.grammar.specs.Token.{Name, Term, name, byte}
+use Rattle.tokens.specs.Ascii.{tab}
+use Rattle.tokens.specs.Split.{pieces}
+use Rattle.tokens.specs.Token.{Name, Term, name, byte}
 
 -- the line lies in the text
 abbrev pub Inside : List ℕ → Line → Type 0

@@ -1,10 +1,11 @@
 -- One name that opens every definition of the grammar, for examples that are computed: `unfolding grammar-open`.
 -- Assumes nothing.
-use Rattle.grammar.specs.Ascii.{ascii, isLetter, isDigit, isNameByte, allowed, all, any, sameBytes}
-use Rattle.grammar.specs.Split.{cut, pieces, later, until}
-use Rattle.grammar.specs.Token.{sameName, nameRun, readPart, readName, readPlain, hexDigit, readHex, readCount}
-use Rattle.grammar.specs.Token.{readConstant, readTerm}
-use Rattle.grammar.specs.Record.{statementWord, wordOf, each, recordFor}
+use Rattle.tokens.specs.Ascii.{ascii, isLetter, isDigit, isNameByte, allowed, all, any, sameBytes}
+use Rattle.tokens.specs.Split.{cut, pieces, later, until}
+use Rattle.tokens.specs.Token.{sameName, nameRun, readPart, readName, readPlain, hexDigit, readHex, readCount}
+use Rattle.tokens.specs.Token.{readConstant, readTerm}
+use Rattle.grammar.specs.Record.{each, recordFor}
+use Rattle.tokens.specs.Word.{statementWord, wordOf}
 
 -- opens every definition of the grammar
 unfoldable pub grammar-open : Unit {0}

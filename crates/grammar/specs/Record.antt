@@ -1,38 +1,17 @@
--- The grammar of one line: its word, the number of its fields, and the form of each (refusal 5, from the line alone).
+-- The grammar of one line whose word is known: the number of its fields, and the form of each (refusal 5, from the
+-- line alone).
 use Prim.Native.Nat.{ℕ, _+_}
 use mathlib.Core.Bool.{cond}
 use mathlib.Core.List.{List, [], _∷_}
 use mathlib.Core.Option.{Option, none, some}
 use lib.Dec.{eqb}
 use lib.ListN.{length, getD, drop}
-use Rattle.grammar.specs.declared.word.Word.{Word}
-use Rattle.grammar.specs.declared.word.Word.the-variants.{Shares, Map, Input, Origin, Set, Xor, Mul, App, Rand}
-use Rattle.grammar.specs.declared.word.Word.the-variants.{Result, Masked, Output, Unknown}
-use Rattle.grammar.specs.Ascii.{ascii, sameBytes, within}
-use Rattle.grammar.specs.Limits.{columnCount, mostShares}
-use Rattle.grammar.specs.Token.{_>>=_, Name, Term, readName, readPlain, readHex, readCount, readTerm}
-
--- the word of a statement that the bytes spell
-unfoldable pub statementWord : List ℕ → Word
-statementWord w =
-    cond (sameBytes w (ascii "set")) Set
-    (cond (sameBytes w (ascii "xor")) Xor
-    (cond (sameBytes w (ascii "mul")) Mul
-    (cond (sameBytes w (ascii "app")) App
-    (cond (sameBytes w (ascii "rand")) Rand
-    Unknown))))
-
--- the word that the bytes spell
-unfoldable pub wordOf : List ℕ → Word
-wordOf w =
-    cond (sameBytes w (ascii "shares")) Shares
-    (cond (sameBytes w (ascii "map")) Map
-    (cond (sameBytes w (ascii "input")) Input
-    (cond (sameBytes w (ascii "origin")) Origin
-    (cond (sameBytes w (ascii "result")) Result
-    (cond (sameBytes w (ascii "masked")) Masked
-    (cond (sameBytes w (ascii "output")) Output
-    (statementWord w)))))))
+use Rattle.tokens.specs.declared.word.Word.{Word}
+use Rattle.tokens.specs.declared.word.Word.the-variants.{Shares, Map, Input, Origin, Set, Xor, Mul, App, Rand}
+use Rattle.tokens.specs.declared.word.Word.the-variants.{Result, Masked, Output, Unknown}
+use Rattle.tokens.specs.Ascii.{within}
+use Rattle.tokens.specs.Limits.{columnCount, mostShares}
+use Rattle.tokens.specs.Token.{_>>=_, Name, Term, readName, readPlain, readHex, readCount, readTerm}
 
 -- What a statement computes, as it is written.
 pub data Form : Type 0 where

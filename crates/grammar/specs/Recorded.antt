@@ -6,10 +6,9 @@ use mathlib.Core.List.{List, map as mapList}
 use mathlib.Core.Option.{Option, none, some}
 use lib.Dec.{eqb}
 use lib.ListN.{length, take, drop}
-use Rattle.grammar.specs.Ascii.{within}
-use Rattle.grammar.specs.declared.token.Number.{Number}
-use Rattle.grammar.specs.declared.token.Number.the-variants as Number
-use Rattle.grammar.specs.declared.word.Word.{Word}
+use Rattle.tokens.specs.Ascii.{within}
+use Rattle.tokens.specs.Answer.{numberAt}
+use Rattle.tokens.specs.declared.word.Word.{Word}
 use Rattle.grammar.specs.declared.line.Line.{Line}
 use Rattle.grammar.specs.declared.line.NameRead.{NameRead}
 use Rattle.grammar.specs.declared.lists.Columns.{Columns}
@@ -21,17 +20,12 @@ use Rattle.grammar.specs.declared.record.FormRead.{FormRead}
 use Rattle.grammar.specs.declared.record.FormRead.the-variants.{Set, Two, App, Rand}
 use Rattle.grammar.specs.declared.record.Binary.{Binary}
 use Rattle.grammar.specs.declared.record.Binary.the-variants as Binary
-use Rattle.grammar.specs.Limits.{columnCount, mostShares}
-use Rattle.grammar.specs.Token.{_>>=_, Name, Term, readHex, readName}
+use Rattle.tokens.specs.Limits.{columnCount, mostShares}
+use Rattle.tokens.specs.Token.{_>>=_, Name, Term, readHex, readName}
 use Rattle.grammar.specs.Line.{nameIn}
 use Rattle.grammar.specs.Record.{Record, shares, map, input, origin, assign, result, masked, output}
 use Rattle.grammar.specs.Record.{Form, set, xor, mul, app, rand, each, fields, assigned, operands, recordFor}
 use Rattle.grammar.specs.Line.{piecesIn, fieldIn, nameAt, termAt}
-
--- the number that a field was read as, or none
-abbrev pub numberAt : Number → Option ℕ
-numberAt (Number.Value v) = some v
-numberAt Number.Bad = none
 
 -- the columns of a map line, where it has the word, a name, a constant and eight fields more
 unfoldable pub columnsOf : List (List ℕ) → Option (List ℕ)

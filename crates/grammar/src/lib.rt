@@ -1,13 +1,4 @@
-// The grammar of a text: its bytes, its lines and fields, and the record of a line.
-pub mod bytes;
-pub mod cursor;
-pub mod formed;
-pub mod handed;
-pub mod limits;
+// The grammar of one line: its fields, and the record that they make.
 pub mod line;
 pub mod lists;
-pub mod reader;
 pub mod record;
-pub mod split;
-pub mod token;
-pub mod word;

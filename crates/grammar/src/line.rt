@@ -1,18 +1,18 @@
 // A line of the text by its place, and its fields, each read by its form.
-use crate::bytes::TAB;
-use crate::limits::NO_PART;
-use crate::split;
-use crate::split::Span;
-use crate::token;
-use crate::token::NameForm;
-use crate::token::Number;
-use crate::token::TermForm;
+use tokens::bytes::TAB;
+use tokens::limits::NO_PART;
+use tokens::split;
+use tokens::split::Span;
+use tokens::token;
+use tokens::token::NameForm;
+use tokens::token::Number;
+use tokens::token::TermForm;
 ghost use mathlib.Core.Path.{_≡_};
 ghost use Prim.Native.Nat.{_+_, _≤_};
 ghost use lib.ListN.{length};
-ghost use Rattle.grammar.specs.Split.{SpanIs};
-ghost use Rattle.grammar.specs.Token.{readHex, readCount, readName, readPlain, readTerm};
-ghost use Rattle.grammar.specs.Answer.{numberRead};
+ghost use Rattle.tokens.specs.Split.{SpanIs};
+ghost use Rattle.tokens.specs.Token.{readHex, readCount, readName, readPlain, readTerm};
+ghost use Rattle.tokens.specs.Answer.{numberRead};
 ghost use Rattle.grammar.specs.Line.{Inside, fieldIn, nameAt, termAt};
 
 // Where a line stands, without its line feed.

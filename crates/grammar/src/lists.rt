@@ -1,18 +1,18 @@
 // The lists of a line: the columns of a map, and the names of an output.
-use crate::limits::COLUMNS;
-use crate::limits::MAP_PIECES;
-use crate::limits::MOST_PIECES;
-use crate::limits::MOST_SHARES;
 use crate::line;
 use crate::line::Line;
 use crate::line::NameRead;
 use crate::line::NameRef;
 use crate::record;
-use crate::token::Number;
+use tokens::limits::COLUMNS;
+use tokens::limits::MAP_PIECES;
+use tokens::limits::MOST_PIECES;
+use tokens::limits::MOST_SHARES;
+use tokens::token::Number;
 ghost use mathlib.Core.Path.{_≡_};
 ghost use Prim.Native.Nat.{_≤_};
 ghost use lib.ListN.{length};
-ghost use Rattle.grammar.specs.Limits.{mostShares};
+ghost use Rattle.tokens.specs.Limits.{mostShares};
 ghost use Rattle.grammar.specs.Line.{Inside, piecesIn};
 ghost use Rattle.grammar.specs.Recorded.{columnsIn, columnsOf, OutputsAre, NoOutputs};
 

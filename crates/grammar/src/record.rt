@@ -1,17 +1,17 @@
 // The record of a line: its word, the number of its fields, and the form of each.
-use crate::bytes::TAB;
-use crate::limits::MAP_PIECES;
-use crate::limits::MOST_PIECES;
 use crate::line;
 use crate::line::Line;
 use crate::line::NameRead;
 use crate::line::TermRead;
-use crate::split;
-use crate::token::Number;
-use crate::word::Word;
+use tokens::bytes::TAB;
+use tokens::limits::MAP_PIECES;
+use tokens::limits::MOST_PIECES;
+use tokens::split;
+use tokens::token::Number;
+use tokens::word::Word;
 ghost use mathlib.Core.Path.{_≡_};
 ghost use lib.ListN.{length};
-ghost use Rattle.grammar.specs.declared.word.Word.the-variants as word;
+ghost use Rattle.tokens.specs.declared.word.Word.the-variants as word;
 ghost use Rattle.grammar.specs.Line.{Inside, piecesIn};
 ghost use Rattle.grammar.specs.Recorded.{Reads, MarkIs, TwoIs, OnlyIs};
 

@@ -1,11 +1,1 @@
-pub mod Shelf
-pub mod Source
-pub mod Load
-pub mod Form
-pub mod Raw
-pub mod Value
-pub mod Walk
-pub mod Table
-pub mod Difference
-pub mod Survey
 pub mod Settle

@@ -13,10 +13,10 @@ use Rattle.verdict.specs.Instances.{modulusOf, symbolic, difference}
 use Rattle.verdict.specs.Count.{lastStep}
 use Rattle.verdict.specs.Idle.{idle}
 use Rattle.verdict.specs.Judge.{decided, judgeRoutine, report, listBytes, workBytes, zeroed, fronted, listAfter}
-use Rattle.judge.specs.declared.shelf.Shelf.{Shelf}
-use Rattle.judge.specs.Shelf.{termsAt, Laid}
-use Rattle.judge.specs.Raw.{mostStanding}
-use Rattle.judge.specs.Survey.{termBytes, Ready, Lent, Standing}
+use Rattle.values.specs.declared.shelf.Shelf.{Shelf}
+use Rattle.values.specs.Shelf.{termsAt, Laid}
+use Rattle.values.specs.Raw.{mostStanding}
+use Rattle.survey.specs.Survey.{termBytes, Ready, Lent, Standing}
 
 -- the raw size of the difference, in every buffer with this directory
 pub record LastSized (r : code.Routine) (d : Shelf) (k : ℕ) : Type 0 where

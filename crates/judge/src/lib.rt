@@ -1,19 +1,9 @@
 // Judge: what a text holds is walked as polynomials in two lent work buffers.
-mod difference;
-mod form;
 mod idle;
-mod load;
-mod raw;
 mod settle;
-mod shelf;
-mod source;
-mod survey;
-mod table;
-mod value;
-mod walk;
 
 use settle::decide;
-use table::clear;
+use survey::table::clear;
 use text::routine::Routine;
 use verdict::report::Report;
 use verdict::report::Verdict;

@@ -1,22 +1,22 @@
 // What the count and the difference decide of a routine.
-use crate::difference::form_difference;
-use crate::difference::outputs_size;
-use crate::raw::operand_size;
-use crate::shelf::Shelf;
-use crate::source::place;
-use crate::survey::MODULUS;
-use crate::survey::MOST_TERMS;
-use crate::survey::masked_scope;
-use crate::survey::origin_scope;
-use crate::survey::survey;
-use poly::search::search;
+use search::search::search;
+use survey::difference::form_difference;
+use survey::difference::outputs_size;
+use survey::survey::MODULUS;
+use survey::survey::MOST_TERMS;
+use survey::survey::masked_scope;
+use survey::survey::origin_scope;
+use survey::survey::survey;
 use text::routine::Routine;
 use text::types::Operand;
+use values::raw::operand_size;
+use values::shelf::Shelf;
+use values::source::place;
 use verdict::report::Report;
 use verdict::report::Verdict;
 ghost use mathlib.Core.Path.{_≡_};
 ghost use Rattle.verdict.specs.Judge.{unknown, report};
-ghost use Rattle.judge.specs.Survey.{Ready, Lent, Directed};
+ghost use Rattle.survey.specs.Survey.{Ready, Lent, Directed};
 ghost use Rattle.judge.specs.Settle.{LastSized, LastAsked, LastFormed, ChooseAsked, Chosen};
 ghost use Rattle.judge.specs.Settle.{DecideAsked, DifferenceDecided, RoutineDecided};
 

@@ -4,10 +4,3 @@ pub mod Value
 pub mod First
 pub mod Size
 pub mod Pass
-pub mod Buffer
-pub mod Move
-pub mod Insert
-pub mod Product
-pub mod Apply
-pub mod Put
-pub mod Search

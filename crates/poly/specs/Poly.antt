@@ -55,6 +55,11 @@ abbrev pub keep : ℕ → List ℕ → Poly → Poly
 keep zero e p = p
 keep (suc c) e p = term (suc c) e ∷ p
 
+-- no term where l is zero
+abbrev pub unlessZero : ℕ → Poly → Poly
+unlessZero zero p = []
+unlessZero (suc l) p = p
+
 -- the byte c as a polynomial in n variables: no term where it is zero
 abbrev pub constant : ℕ → ℕ → Poly
 constant n c = keep c (replicate n 0) []

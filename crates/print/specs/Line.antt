@@ -7,7 +7,7 @@ use mathlib.Core.Bool.{cond}
 use mathlib.Core.List.{List, [], _∷_, _++_}
 use lib.Dec.{leb, eqb}
 use lib.ListN.{length, take, drop}
-use Rattle.grammar.specs.Ascii.{tab, lineFeed}
+use Rattle.tokens.specs.Ascii.{tab, lineFeed}
 use Rattle.verdict.specs.declared.report.Report.{Report}
 use Rattle.verdict.specs.Print.{word, decimal, hexes}
 

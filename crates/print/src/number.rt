@@ -3,7 +3,7 @@ ghost use mathlib.Core.Path.{_≡_};
 ghost use Prim.Native.Nat.{_+_, _<_, _≤_};
 ghost use mathlib.Core.List.{_∷_};
 ghost use lib.ListN.{length};
-ghost use Rattle.grammar.specs.Ascii.{tab};
+ghost use Rattle.tokens.specs.Ascii.{tab};
 ghost use Rattle.verdict.specs.Print.{decimal};
 ghost use Rattle.print.specs.Line.{Put};
 use crate::put::put_byte;

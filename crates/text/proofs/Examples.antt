@@ -6,7 +6,7 @@ use mathlib.Core.List.{List, [], _∷_, map}
 use lib.ListN.{replicate}
 use Rattle.text.specs.declared.types.Operand.the-variants.{Place, Byte}
 use Rattle.text.specs.declared.types.Op.the-variants.{Set, Xor, Mul, App, Rand}
-use Rattle.grammar.specs.Ascii.{ascii}
+use Rattle.tokens.specs.Ascii.{ascii}
 use Rattle.text.specs.Open.{text-open}
 use Rattle.text.specs.Read.{Reading, refused, accepted}
 use Rattle.text.specs.Read.{readText}

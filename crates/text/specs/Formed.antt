@@ -10,10 +10,10 @@ use Rattle.text.specs.declared.types.Op.{Op}
 use Rattle.text.specs.declared.types.Op.the-variants.{Set, Xor, Mul, App, Rand}
 use Rattle.text.specs.declared.types.Statement.{Statement}
 use Rattle.text.specs.declared.types.AffineMap.{AffineMap}
-use Rattle.grammar.specs.Limits.{columnCount}
+use Rattle.tokens.specs.Limits.{columnCount}
 use Rattle.text.specs.Limits.{mostVariables}
 use Rattle.text.specs.Read.{Routine}
-pub use Rattle.grammar.specs.Byte.{Each, IsByte}
+pub use Rattle.tokens.specs.Byte.{Each, IsByte}
 
 -- a constant operand is a byte
 abbrev pub FormedOperand : Operand → Type 0

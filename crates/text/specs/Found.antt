@@ -18,12 +18,12 @@ use Rattle.text.specs.declared.scope.FormFound.{FormFound}
 use Rattle.grammar.specs.declared.record.FormRead.{FormRead}
 use Rattle.grammar.specs.declared.record.Binary.{Binary}
 use Rattle.grammar.specs.declared.record.Binary.the-variants as Binary
-use Rattle.grammar.specs.Token.{Name, Term}
+use Rattle.tokens.specs.Token.{Name, Term}
 use Rattle.grammar.specs.Record.{Form}
 use Rattle.text.specs.Scope.{placeOf, missing, unknownTerm, operandIn, unknownForm, opIn, drawn}
 use Rattle.grammar.specs.Line.{termAt}
 use Rattle.grammar.specs.declared.line.TermRead.{TermRead}
-use Rattle.grammar.specs.Ascii.{any}
+use Rattle.tokens.specs.Ascii.{any}
 use Rattle.grammar.specs.Recorded.{formAt, namesRead}
 use Rattle.grammar.specs.declared.lists.Outputs.{Outputs}
 use Rattle.text.specs.declared.outputs.PlacesFound.{PlacesFound}

@@ -5,10 +5,10 @@ use mathlib.Core.List.{List}
 use lib.Dec.{ltb}
 use lib.ListN.{length, drop}
 use denote.Ref.{now}
-use Rattle.grammar.specs.Ascii.{lineFeed}
-use Rattle.grammar.specs.Split.{pieces}
-use Rattle.grammar.specs.declared.reader.Reader.{Reader}
-use Rattle.grammar.specs.Reader.{placed}
+use Rattle.tokens.specs.Ascii.{lineFeed}
+use Rattle.tokens.specs.Split.{pieces}
+use Rattle.reader.specs.declared.reader.Reader.{Reader}
+use Rattle.reader.specs.Reader.{placed}
 use Rattle.text.specs.Limits.{mostBytes}
 use Rattle.text.specs.State.{start}
 use Rattle.text.specs.Read.{Reading, refused, takeLines}

@@ -3,7 +3,7 @@ use Prim.Native.Nat.{ℕ, _+_}
 use mathlib.Core.List.{List, [], _∷_, _++_}
 use Rattle.text.specs.declared.types.Statement.{Statement}
 use Rattle.text.specs.declared.types.AffineMap.{AffineMap}
-use Rattle.grammar.specs.Token.{Name}
+use Rattle.tokens.specs.Token.{Name}
 use Rattle.text.specs.State.{Block, State}
 
 -- names given in a set, at the next places

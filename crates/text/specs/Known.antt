@@ -5,7 +5,7 @@ use mathlib.Core.Bool.{Bool, _||_, cond}
 use mathlib.Core.List.{List}
 use lib.Dec.{ltb, eqb}
 use lib.ListN.{length}
-use Rattle.grammar.specs.Token.{Name}
+use Rattle.tokens.specs.Token.{Name}
 use Rattle.text.specs.declared.types.Statement.{Statement}
 use Rattle.text.specs.declared.names.Names.{Names}
 use Rattle.text.specs.declared.known.Known.{Known}
@@ -16,7 +16,7 @@ use Rattle.text.specs.Scope.{shareNames, block}
 use Rattle.text.specs.Limits.{mostMaps, mostInputs, mostVariables, mostStatements}
 use Rattle.text.specs.Names.{namesIn}
 use Rattle.text.specs.Routine.{mapsOf, originOf, maskedOf, outputsOf}
-use Rattle.grammar.specs.Limits.{mostShares}
+use Rattle.tokens.specs.Limits.{mostShares}
 
 -- the state that the code's state stands for
 unfoldable pub stateIn : List ℕ → Known → State

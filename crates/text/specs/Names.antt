@@ -3,7 +3,7 @@ use Prim.Native.Nat.{ℕ, _+_}
 use mathlib.Core.Path.{_≡_}
 use mathlib.Core.List.{List, map, _++_}
 use lib.ListN.{take}
-use Rattle.grammar.specs.Token.{Name}
+use Rattle.tokens.specs.Token.{Name}
 use Rattle.grammar.specs.Line.{nameIn}
 use Rattle.grammar.specs.declared.line.NameRef.{NameRef}
 use Rattle.text.specs.Scope.{shareNames}

@@ -2,9 +2,9 @@
 use Prim.Native.Nat.{ℕ}
 use mathlib.Core.Bool.{Bool, false, _||_}
 use lib.Dec.{eqb}
-use Rattle.grammar.specs.declared.word.Word.{Word}
-use Rattle.grammar.specs.declared.word.Word.the-variants.{Shares, Map, Input, Origin, Set, Xor, Mul, App, Rand, Result}
-use Rattle.grammar.specs.declared.word.Word.the-variants.{Masked, Output, Unknown}
+use Rattle.tokens.specs.declared.word.Word.{Word}
+use Rattle.tokens.specs.declared.word.Word.the-variants.{Shares, Map, Input, Origin, Set, Xor, Mul, App, Rand, Result}
+use Rattle.tokens.specs.declared.word.Word.the-variants.{Masked, Output, Unknown}
 
 -- nothing is read yet
 abbrev pub atStart : ℕ

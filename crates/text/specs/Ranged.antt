@@ -10,7 +10,7 @@ use Rattle.text.specs.declared.types.Operand.the-variants.{Place, Byte}
 use Rattle.text.specs.declared.types.Op.{Op}
 use Rattle.text.specs.declared.types.Op.the-variants.{Set, Xor, Mul, App, Rand}
 use Rattle.text.specs.declared.types.Statement.{Statement}
-use Rattle.grammar.specs.Limits.{mostShares}
+use Rattle.tokens.specs.Limits.{mostShares}
 use Rattle.text.specs.Limits.{mostMaps, mostInputs, mostStatements}
 use Rattle.text.specs.Read.{Routine}
 use Rattle.text.specs.Formed.{Each}

@@ -5,12 +5,13 @@ use mathlib.Core.List.{List, [], _∷_}
 use mathlib.Core.Option.{Option, none, some}
 use lib.Dec.{ltb, eqb}
 use lib.ListN.{length}
-use Rattle.grammar.specs.declared.word.Word.{Word}
+use Rattle.tokens.specs.declared.word.Word.{Word}
 use Rattle.text.specs.declared.types.Statement.{Statement}
 use Rattle.text.specs.declared.types.AffineMap.{AffineMap}
-use Rattle.grammar.specs.Ascii.{all, allowed, tab, lineFeed}
-use Rattle.grammar.specs.Split.{pieces}
-use Rattle.grammar.specs.Record.{Record, field, wordOf, recordFor}
+use Rattle.tokens.specs.Ascii.{all, allowed, tab, lineFeed}
+use Rattle.tokens.specs.Split.{pieces}
+use Rattle.grammar.specs.Record.{Record, field, recordFor}
+use Rattle.tokens.specs.Word.{wordOf}
 use Rattle.text.specs.Limits.{mostBytes}
 use Rattle.text.specs.Order.{mayStand, stageAfter, atEnd}
 use Rattle.text.specs.State.{State, start}

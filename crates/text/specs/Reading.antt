@@ -13,9 +13,9 @@ use Rattle.text.specs.Order.{atEnd}
 use Rattle.text.specs.Known.{stateIn}
 use Rattle.text.specs.declared.known.Known.{Known}
 use Rattle.grammar.specs.declared.line.Line.{Line}
-use Rattle.grammar.specs.Ascii.{all, allowed}
+use Rattle.tokens.specs.Ascii.{all, allowed}
 use Rattle.text.specs.Routine.{routineOf, Counted}
-use Rattle.grammar.specs.Limits.{mostShares}
+use Rattle.tokens.specs.Limits.{mostShares}
 
 -- refusal 0 is none
 unfoldable pub readingOf : answer.Reading → Reading

@@ -10,7 +10,7 @@ use Rattle.text.specs.declared.types.AffineMap.{AffineMap}
 use Rattle.text.specs.declared.routine.Routine as code
 use Rattle.text.specs.Limits.{mostMaps, mostInputs, mostVariables, mostStatements}
 use Rattle.text.specs.Read.{Routine}
-use Rattle.grammar.specs.Limits.{mostShares, columnCount}
+use Rattle.tokens.specs.Limits.{mostShares, columnCount}
 
 -- ---- what it stands for: the parts of the arrays that are in use
 

@@ -9,9 +9,9 @@ use Rattle.text.specs.declared.types.Operand.the-variants.{Place, Byte}
 use Rattle.text.specs.declared.types.Op.{Op}
 use Rattle.text.specs.declared.types.Op.the-variants.{Set, Xor, Mul, App, Rand}
 use Rattle.text.specs.declared.types.Statement.{Statement}
-use Rattle.grammar.specs.Ascii.{any}
-use Rattle.grammar.specs.Split.{until}
-use Rattle.grammar.specs.Token.{Name, sameName, Term, name, byte}
+use Rattle.tokens.specs.Ascii.{any}
+use Rattle.tokens.specs.Split.{until}
+use Rattle.tokens.specs.Token.{Name, sameName, Term, name, byte}
 use Rattle.grammar.specs.Record.{Form, set, xor, mul, app, rand, Record, shares, map, input, origin, assign, result}
 use Rattle.grammar.specs.Record.{masked, output}
 use Rattle.text.specs.Limits.{mostMaps, mostInputs, mostVariables, mostStatements}

@@ -3,7 +3,7 @@ use Prim.Native.Nat.{ℕ}
 use mathlib.Core.List.{List, []}
 use Rattle.text.specs.declared.types.Statement.{Statement}
 use Rattle.text.specs.declared.types.AffineMap.{AffineMap}
-use Rattle.grammar.specs.Token.{Name}
+use Rattle.tokens.specs.Token.{Name}
 use Rattle.text.specs.Order.{atStart}
 
 -- A block: the names of its set, each at its value's place, and its statements.

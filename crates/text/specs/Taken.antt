@@ -7,7 +7,7 @@ use mathlib.Core.Option.{Option, none, some}
 use Rattle.text.specs.declared.known.Known.{Known}
 use Rattle.text.specs.declared.step.Step.{Step}
 use lib.ListN.{take, drop}
-use Rattle.grammar.specs.declared.word.Word.{Word}
+use Rattle.tokens.specs.declared.word.Word.{Word}
 use Rattle.grammar.specs.declared.line.Line.{Line}
 use Rattle.grammar.specs.declared.line.NameRef.{NameRef}
 use Rattle.grammar.specs.declared.line.NameRead.{NameRead}

@@ -12,7 +12,7 @@ use grammar::line::Line;
 use grammar::line::NameRead;
 use grammar::line::NameRef;
 use grammar::lists;
-use grammar::token::Number;
+use tokens::token::Number;
 ghost use mathlib.Core.List.{List};
 ghost use Prim.Native.Nat.{ℕ};
 ghost use Rattle.grammar.specs.declared.record.Rec.the-variants as rec;

@@ -1,12 +1,12 @@
 // Names by their place in the text, and sets of them in the order of giving.
 use crate::limits::MOST_NAMES;
-use grammar::bytes;
 use grammar::line::NameRef;
-use grammar::split;
+use tokens::bytes;
+use tokens::split;
 ghost use mathlib.Core.Path.{_≡_};
 ghost use mathlib.Core.List.{List, [], _∷_, _++_};
 ghost use Prim.Native.Nat.{ℕ, _+_, _≤_, _<_};
-ghost use Rattle.grammar.specs.Token.{sameName};
+ghost use Rattle.tokens.specs.Token.{sameName};
 ghost use Rattle.text.specs.Scope.{placeOf};
 ghost use Rattle.grammar.specs.Line.{nameIn};
 ghost use Rattle.text.specs.Limits.{mostNames};

@@ -1,5 +1,5 @@
 // The order of records.
-use grammar::word::Word;
+use tokens::word::Word;
 ghost use mathlib.Core.Path.{_≡_};
 ghost use mathlib.Core.Bool.{_||_};
 ghost use lib.Dec.{eqb};

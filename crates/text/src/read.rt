@@ -8,18 +8,18 @@ use crate::routine;
 use crate::routine::Routine;
 use crate::step::Step;
 use crate::take;
-use grammar::bytes;
-use grammar::cursor;
-use grammar::cursor::Ahead;
-use grammar::handed;
 use grammar::line;
 use grammar::line::Line;
-use grammar::reader;
-use grammar::reader::Reader;
 use grammar::record;
-use grammar::split;
-use grammar::word;
-use grammar::word::Word;
+use reader::cursor;
+use reader::cursor::Ahead;
+use reader::handed;
+use reader::reader::Reader;
+use reader::reader::open;
+use tokens::bytes;
+use tokens::split;
+use tokens::word;
+use tokens::word::Word;
 ghost use mathlib.Core.List.{List};
 ghost use Prim.Native.Nat.{ℕ, _≤_};
 ghost use Rattle.grammar.specs.Line.{Inside};
@@ -119,7 +119,7 @@ pub fn unended(s: &[u8], k: Known, l: Line, n: usize) -> Reading
 pub fn read(s: &[u8]) -> Reading
     ensures { λ r. ⌜ ReadingIs r (readText (now (s .entry))) ⌝ }
 {
-    read_all(reader::open(s))
+    read_all(open(s))
 }
 
 // The reading of the lines from a reader on.

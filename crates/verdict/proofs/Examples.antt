@@ -2,7 +2,7 @@
 -- Assumes nothing.
 use mathlib.Core.Path.{_≡_, refl}
 use mathlib.Core.List.{map}
-use Rattle.grammar.specs.Ascii.{ascii}
+use Rattle.tokens.specs.Ascii.{ascii}
 use Rattle.verdict.specs.Judge.{workBytes, listBytes, outcome}
 use Rattle.verdict.specs.Print.{printed}
 use Rattle.verdict.specs.Examples.{examples}

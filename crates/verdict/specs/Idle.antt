@@ -3,7 +3,7 @@
 use Prim.Native.Nat.{ℕ, zero, suc, _+_}
 use mathlib.Core.Bool.{Bool, false, _||_, cond}
 use lib.Dec.{eqb}
-use Rattle.grammar.specs.Ascii.{any}
+use Rattle.tokens.specs.Ascii.{any}
 use Rattle.text.specs.declared.types.Operand.{Operand}
 use Rattle.text.specs.declared.types.Operand.the-variants.{Place, Byte}
 use Rattle.text.specs.declared.types.Op.{Op}

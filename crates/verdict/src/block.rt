@@ -7,7 +7,7 @@ ghost use mathlib.Core.Path.{_≡_};
 ghost use mathlib.Core.List.{map};
 ghost use Prim.Native.Nat.{_*_, _≤_};
 ghost use lib.ListN.{length, take};
-ghost use Rattle.grammar.specs.Limits.{mostShares};
+ghost use Rattle.tokens.specs.Limits.{mostShares};
 ghost use Rattle.text.specs.Routine.{outputsOf};
 ghost use Rattle.text.specs.Limits.{mostMaps};
 ghost use Rattle.verdict.specs.Meaning.{mapAt, valueAt, operand, given, joined};

@@ -7,13 +7,13 @@ use mathlib.Core.Option.{Option, none, some}
 use lib.ListN.{length, drop, getD, drop-of-length-le}
 use native.Mathlib.Omega.{arith}
 use borrow.Author.Tests.{eq-eqb, ne-eqb, le-leb, lt-leb}
-use Rattle.grammar.specs.Token.{_>>=_, readHex, readName}
+use Rattle.tokens.specs.Token.{_>>=_, readHex, readName}
 use Rattle.grammar.specs.Record.{each}
 use Rattle.grammar.specs.Recorded.{columnsOf, namesOf, namesRead, NoOutputs, OutputsAre}
 use Rattle.grammar.specs.Line.{piecesIn}
 use Rattle.grammar.specs.declared.line.Line.{Line}
 use Rattle.grammar.specs.declared.lists.Outputs.{Outputs}
-use Rattle.grammar.proofs.Laws.Scan.{drop-next}
+use Rattle.tokens.proofs.Laws.Scan.{drop-next}
 
 -- what the pieces left give, behind acc
 abbrev pub onto : {A : Type 0} → List A → Option (List A) → Option (List A)

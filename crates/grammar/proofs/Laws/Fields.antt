@@ -14,18 +14,18 @@ use Rattle.grammar.specs.declared.line.NameRead.{NameRead}
 use Rattle.grammar.specs.declared.line.NameRead.the-variants as NameRead
 use Rattle.grammar.specs.declared.line.TermRead.{TermRead}
 use Rattle.grammar.specs.declared.line.TermRead.the-variants as TermRead
-use Rattle.grammar.specs.declared.token.NameForm.{NameForm}
-use Rattle.grammar.specs.declared.token.NameForm.the-variants as NameForm
-use Rattle.grammar.specs.declared.token.TermForm.{TermForm}
-use Rattle.grammar.specs.declared.token.TermForm.the-variants as TermForm
-use Rattle.grammar.specs.Ascii.{within, isLetter, hash}
-use Rattle.grammar.specs.Split.{SpanIs}
-use Rattle.grammar.specs.Token.{_>>=_, Name, name, byte, nameRun, readPart, readName, readPlain, readHex}
-use Rattle.grammar.specs.Token.{readConstant, readTerm}
-use Rattle.grammar.specs.Answer.{nameRead, termRead}
+use Rattle.tokens.specs.declared.token.NameForm.{NameForm}
+use Rattle.tokens.specs.declared.token.NameForm.the-variants as NameForm
+use Rattle.tokens.specs.declared.token.TermForm.{TermForm}
+use Rattle.tokens.specs.declared.token.TermForm.the-variants as TermForm
+use Rattle.tokens.specs.Ascii.{within, isLetter, hash}
+use Rattle.tokens.specs.Split.{SpanIs}
+use Rattle.tokens.specs.Token.{_>>=_, Name, name, byte, nameRun, readPart, readName, readPlain, readHex}
+use Rattle.tokens.specs.Token.{readConstant, readTerm}
+use Rattle.tokens.specs.Answer.{nameRead, termRead}
 use Rattle.grammar.specs.Line.{nameIn}
 use Rattle.grammar.specs.Line.{nameAt, termAt}
-use Rattle.grammar.proofs.Laws.Answers.{run-le}
+use Rattle.tokens.proofs.Laws.Answers.{run-le}
 
 -- a part of a front part is a part of the whole
 part-of-front : (a m n : ℕ) (t : List ℕ) → a + m ≤ n → take m (drop a (take n t)) ≡ take m (drop a t)

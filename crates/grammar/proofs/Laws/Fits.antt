@@ -9,17 +9,17 @@ use mathlib.Core.Option.{Option, none, some}
 use lib.Dec.{leb, ltb, eqb}
 use lib.ListN.{length, drop, getD, length-drop}
 use borrow.Author.Tests.{leb-true, ltb-true, eqb-true}
-use Rattle.grammar.specs.declared.word.Word.{Word}
-use Rattle.grammar.specs.declared.word.Word.the-variants.{Shares, Map, Input, Origin, Set, Xor, Mul, App, Rand}
-use Rattle.grammar.specs.declared.word.Word.the-variants.{Result, Masked, Output, Unknown}
-use Rattle.grammar.specs.Ascii.{within, hash}
-use Rattle.grammar.specs.Token.{_>>=_, provided, Name, Term, name, byte, hexDigit, readName, readPlain, readHex}
-use Rattle.grammar.specs.Token.{readCount, readConstant, readTerm}
+use Rattle.tokens.specs.declared.word.Word.{Word}
+use Rattle.tokens.specs.declared.word.Word.the-variants.{Shares, Map, Input, Origin, Set, Xor, Mul, App, Rand}
+use Rattle.tokens.specs.declared.word.Word.the-variants.{Result, Masked, Output, Unknown}
+use Rattle.tokens.specs.Ascii.{within, hash}
+use Rattle.tokens.specs.Token.{_>>=_, provided, Name, Term, name, byte, hexDigit, readName, readPlain, readHex}
+use Rattle.tokens.specs.Token.{readCount, readConstant, readTerm}
 use Rattle.grammar.specs.Record.{Form, set, xor, mul, app, rand, Record, shares, map, input, origin, assign}
 use Rattle.grammar.specs.Record.{result}
 use Rattle.grammar.specs.Record.{masked, output, each, field, fields, assigned, operands, recordFor}
-use Rattle.grammar.specs.Limits.{columnCount, mostShares}
-use Rattle.grammar.specs.Byte.{Each, IsByte}
+use Rattle.tokens.specs.Limits.{columnCount, mostShares}
+use Rattle.tokens.specs.Byte.{Each, IsByte}
 
 -- ---- what an answer holds, if it holds anything
 

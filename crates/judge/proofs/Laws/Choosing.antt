@@ -12,17 +12,17 @@ use Rattle.field.specs.Laws.{gf}
 use Rattle.poly.specs.Poly.{Poly}
 use Rattle.poly.specs.First.{firstDiffering, tried}
 use Rattle.poly.specs.Canon.{Canon}
-use Rattle.poly.specs.Buffer.{readTerms}
-use Rattle.poly.specs.Search.{SearchAsked, Searched}
+use Rattle.buffer.specs.Buffer.{readTerms}
+use Rattle.search.specs.Search.{SearchAsked, Searched}
 use Rattle.text.specs.declared.routine.Routine as code
 use Rattle.text.specs.Routine.{routineOf}
 use Rattle.verdict.specs.Instances.{modulusOf, powersOf, difference}
 use Rattle.verdict.specs.Judge.{fronted}
 use Rattle.verdict.proofs.Laws.Value.{difference-reduced}
-use Rattle.judge.specs.Load.{LayAsked}
-use Rattle.judge.specs.Survey.{modulus, termBytes}
+use Rattle.values.specs.Load.{LayAsked}
+use Rattle.survey.specs.Survey.{modulus, termBytes}
 use Rattle.judge.specs.Settle.{ChooseAsked, chosen, Chosen}
-use Rattle.judge.proofs.Laws.Forming.{read-drop, end-room}
+use Rattle.values.proofs.Laws.Forming.{read-drop, end-room}
 
 -- a list whose first v bytes became bs, the others as they were
 pub fronted-by : (bs l l′ : List ℕ) (v : ℕ) → take v l′ ≡ bs → v ≤ length l → length l′ ≡ length l

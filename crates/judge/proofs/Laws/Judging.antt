@@ -25,7 +25,7 @@ use Rattle.verdict.specs.Count.{unknownLine}
 use Rattle.verdict.specs.Judge.{Outcome, refused, decided, settled, judgeRoutine, judgeReading, short, outcome, report}
 use Rattle.verdict.specs.Judge.{zeroed, workAfter, listAfter, workBytes, listBytes, cameOf, Judged}
 use Rattle.verdict.proofs.Verdict.{judge-settled}
-use Rattle.judge.specs.Survey.{Ready}
+use Rattle.survey.specs.Survey.{Ready}
 use Rattle.judge.specs.Settle.{RoutineJudged}
 
 -- ---- a work buffer whose first n bytes were lent twice: used, and then cleared

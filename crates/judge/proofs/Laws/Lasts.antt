@@ -14,7 +14,7 @@ use Rattle.poly.specs.Canon.{Raw}
 use Rattle.poly.proofs.Laws.Normal.{canon-raw}
 use Rattle.poly.proofs.Laws.Reduced.{canon-variable, unit-spare}
 use Rattle.poly.proofs.Laws.Size.{add-size}
-use Rattle.poly.proofs.Lent.Reads.{read-length}
+use Rattle.buffer.proofs.Lent.Reads.{read-length}
 use Rattle.text.specs.declared.routine.Routine as code
 use Rattle.text.specs.declared.types.Operand.the-variants.{Place}
 use Rattle.text.specs.Read.{Routine}
@@ -27,19 +27,19 @@ use Rattle.verdict.specs.Count.{lastStep}
 use Rattle.verdict.proofs.Laws.Lists.{each-at, each-tabulate}
 use Rattle.verdict.proofs.Laws.Closed.{masked-closed}
 use Rattle.verdict.proofs.Laws.Value.{Reduced, modulus-of, room-for, reduced-closed, result-reduced}
-use Rattle.judge.specs.declared.shelf.Shelf.{Shelf}
-use Rattle.judge.specs.declared.source.Source.{Source}
-use Rattle.judge.specs.declared.source.Scope.{Scope}
-use Rattle.judge.specs.Shelf.{Laid}
-use Rattle.judge.specs.Source.{sourceOf, sourceSize, reach, Narrow, Located}
-use Rattle.judge.specs.Load.{mostTermBytes, LayAsked, LoadAsked}
-use Rattle.judge.specs.Raw.{mostStanding, SizeAsked, OperandSized}
-use Rattle.judge.specs.Difference.{placed, outputTerms, OutputsAsked, OutputsSized}
-use Rattle.judge.specs.Survey.{modulus, termBytes, originScope, maskedScope, Ready, Lent, Directed, Standing}
+use Rattle.values.specs.declared.shelf.Shelf.{Shelf}
+use Rattle.values.specs.declared.source.Source.{Source}
+use Rattle.values.specs.declared.source.Scope.{Scope}
+use Rattle.values.specs.Shelf.{Laid}
+use Rattle.values.specs.Source.{sourceOf, sourceSize, reach, Narrow, Located}
+use Rattle.values.specs.Load.{mostTermBytes, LayAsked, LoadAsked}
+use Rattle.values.specs.Raw.{mostStanding, SizeAsked, OperandSized}
+use Rattle.survey.specs.Difference.{placed, outputTerms, OutputsAsked, OutputsSized}
+use Rattle.survey.specs.Survey.{modulus, termBytes, originScope, maskedScope, Ready, Lent, Directed, Standing}
 use Rattle.judge.specs.Settle.{LastSized, LastFormed}
-use Rattle.judge.proofs.Laws.Sources.{source-length}
-use Rattle.judge.proofs.Laws.Outputs.{difference-normal}
-use Rattle.judge.proofs.Laws.Asking.{lent-room}
+use Rattle.values.proofs.Laws.Sources.{source-length}
+use Rattle.survey.proofs.Laws.Outputs.{difference-normal}
+use Rattle.survey.proofs.Laws.Asking.{lent-room}
 
 -- ---- the outputs of a routine are reduced
 

@@ -21,9 +21,9 @@ use Rattle.verdict.specs.Count.{lastStep, unknownLine}
 use Rattle.verdict.specs.Idle.{idle}
 use Rattle.verdict.specs.Judge.{Outcome, unknown, decided, settled, judgeRoutine, report, fronted, listAfter}
 use Rattle.verdict.proofs.Verdict.{judge-settled}
-use Rattle.judge.specs.declared.shelf.Shelf.{Shelf}
-use Rattle.judge.specs.Raw.{mostStanding}
-use Rattle.judge.specs.Survey.{Standing}
+use Rattle.values.specs.declared.shelf.Shelf.{Shelf}
+use Rattle.values.specs.Raw.{mostStanding}
+use Rattle.survey.specs.Survey.{Standing}
 use Rattle.judge.specs.Settle.{LastSized, Chosen, DifferenceDecided, RoutineDecided}
 
 -- ---- what the difference decides

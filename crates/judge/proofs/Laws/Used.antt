@@ -8,7 +8,7 @@ use mathlib.Core.Bool.{Bool, true, false}
 use mathlib.Core.List.{List}
 use lib.ListN.{length, drop, getD}
 use lib.Seq.{drop-length}
-use Rattle.grammar.specs.Ascii.{any}
+use Rattle.tokens.specs.Ascii.{any}
 use Rattle.verdict.specs.Idle.{failing}
 use Rattle.verdict.proofs.Laws.Parts.{drop-first}
 

@@ -11,7 +11,7 @@ use Rattle.poly.specs.Poly.{term, Poly, order, constant, into, normal, s
 use Rattle.poly.specs.Value.{only, coef}
 use Rattle.poly.specs.Canon.{Canon, Raw}
 use Rattle.poly.specs.Size.{oneIf}
-use Rattle.poly.specs.Apply.{unlessZero}
+use Rattle.poly.specs.Poly.{unlessZero}
 use Rattle.field.proofs.Laws.Algebra.{zero-mul as mul-zero-left, zero-add}
 use Rattle.poly.proofs.Laws.Normal.{canon-raw, insert-canon, only-zero, coef-insert}
 use Rattle.poly.proofs.Laws.Normal.{same-normal}

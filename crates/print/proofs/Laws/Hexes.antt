@@ -7,7 +7,7 @@ use native.Mathlib.Numerals.{add-one}
 use mathlib.Core.List.{List, [], _∷_, _++_}
 use lib.ListN.{length, take, getD}
 use lib.Seq.{take-suc, take-all, length-take-le}
-use Rattle.grammar.specs.Ascii.{tab}
+use Rattle.tokens.specs.Ascii.{tab}
 use Rattle.verdict.specs.Print.{hexes, hexDigit}
 use Rattle.print.specs.Line.{Put}
 use Rattle.print.proofs.Laws.Put.{put-length}

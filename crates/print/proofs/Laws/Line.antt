@@ -7,7 +7,7 @@ use native.Mathlib.Nat.{zero-add}
 use mathlib.Core.List.{List, [], _∷_, _++_}
 use lib.ListN.{length, length-append}
 use borrow.Author.Tests.{le-leb, lt-leb}
-use Rattle.grammar.specs.Ascii.{ascii, tab, lineFeed}
+use Rattle.tokens.specs.Ascii.{ascii, tab, lineFeed}
 use Rattle.verdict.specs.declared.report.Report.{Report}
 use Rattle.verdict.specs.declared.report.Verdict.{Verdict}
 use Rattle.verdict.specs.declared.report.Verdict.the-variants.{Equal, Differs, Unknown, Refused}

@@ -15,7 +15,7 @@ use Rattle.grammar.specs.declared.record.Binary.{Binary}
 use Rattle.grammar.specs.declared.record.Binary.the-variants.{Xor, Mul}
 use Rattle.grammar.specs.declared.record.FormRead.{FormRead}
 use Rattle.grammar.specs.declared.record.FormRead.the-variants as FormRead
-use Rattle.grammar.specs.Token.{_>>=_, Name, Term}
+use Rattle.tokens.specs.Token.{_>>=_, Name, Term}
 use Rattle.grammar.specs.Record.{set, app}
 use Rattle.grammar.specs.Line.{nameIn, nameAt, termAt}
 use Rattle.grammar.specs.Recorded.{binary, formAt}

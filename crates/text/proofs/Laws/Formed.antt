@@ -9,11 +9,11 @@ use mathlib.Core.List.{List, [], _∷_, _++_}
 use mathlib.Core.Option.{none}
 use lib.Dec.{ltb, eqb}
 use borrow.Author.Tests.{ltb-false}
-use Rattle.grammar.specs.declared.word.Word.{Word}
-use Rattle.grammar.specs.declared.word.Word.the-variants.{Shares, Map, Input, Origin, Set, Xor, Mul, App, Rand}
-use Rattle.grammar.specs.declared.word.Word.the-variants.{Result, Masked, Output, Unknown}
+use Rattle.tokens.specs.declared.word.Word.{Word}
+use Rattle.tokens.specs.declared.word.Word.the-variants.{Shares, Map, Input, Origin, Set, Xor, Mul, App, Rand}
+use Rattle.tokens.specs.declared.word.Word.the-variants.{Result, Masked, Output, Unknown}
 use Rattle.text.specs.declared.types.Statement.{Statement}
-use Rattle.grammar.specs.Token.{Name, Term, name, byte}
+use Rattle.tokens.specs.Token.{Name, Term, name, byte}
 use Rattle.grammar.specs.Record.{Form, set, xor, mul, app, rand, Record, shares, origin, assign}
 use Rattle.grammar.specs.Record.{masked}
 use Rattle.text.specs.Order.{atStart, inMasked, mayStand, stageAfter}

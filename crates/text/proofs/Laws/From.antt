@@ -7,12 +7,12 @@ use mathlib.Core.List.{List}
 use lib.Dec.{ltb}
 use lib.ListN.{length, drop}
 use denote.Ref.{RefT, now}
-use Rattle.grammar.specs.declared.cursor.Cursor.{Cursor}
-use Rattle.grammar.specs.declared.reader.Reader.{Reader}
-use Rattle.grammar.specs.Handed.{opened}
-use Rattle.grammar.specs.Ascii.{lineFeed}
-use Rattle.grammar.specs.Split.{pieces}
-use Rattle.grammar.proofs.Laws.Handed.{placed-same}
+use Rattle.reader.specs.declared.cursor.Cursor.{Cursor}
+use Rattle.reader.specs.declared.reader.Reader.{Reader}
+use Rattle.reader.specs.Handed.{opened}
+use Rattle.tokens.specs.Ascii.{lineFeed}
+use Rattle.tokens.specs.Split.{pieces}
+use Rattle.reader.proofs.Laws.Handed.{placed-same}
 use Rattle.text.specs.Limits.{mostBytes}
 use Rattle.text.specs.State.{start}
 use Rattle.text.specs.declared.read.Reading as answer

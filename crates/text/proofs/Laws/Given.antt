@@ -6,12 +6,13 @@ use mathlib.Core.Bool.{Bool, true, false, cond}
 use mathlib.Core.List.{List}
 use mathlib.Core.Option.{Option, none, some}
 use Rattle.grammar.specs.declared.line.Line.{Line}
-use Rattle.grammar.specs.declared.word.Word.{Word}
-use Rattle.grammar.specs.declared.cursor.Cursor.{Cursor}
-use Rattle.grammar.specs.Ascii.{all, allowed}
+use Rattle.tokens.specs.declared.word.Word.{Word}
+use Rattle.reader.specs.declared.cursor.Cursor.{Cursor}
+use Rattle.tokens.specs.Ascii.{all, allowed}
 use Rattle.grammar.specs.Line.{piecesIn, fieldIn}
-use Rattle.grammar.specs.Record.{Record, wordOf, recordFor}
-use Rattle.grammar.specs.Reader.{Given, given, refused, ended, formed, bytesOf, lineGiven}
+use Rattle.grammar.specs.Record.{Record, recordFor}
+use Rattle.tokens.specs.Word.{wordOf}
+use Rattle.reader.specs.Reader.{Given, given, refused, ended, formed, bytesOf, lineGiven}
 use Rattle.text.specs.State.{State}
 use Rattle.text.specs.Read.{Outcome, stop, takeRecord, takePieces, takeLine}
 

@@ -10,10 +10,11 @@ use mathlib.Core.Option.{Option, none, some}
 use lib.Dec.{ltb, eqb}
 use lib.ListN.{length}
 use borrow.Author.Tests.{not-false, eqb-true}
-use Rattle.grammar.specs.declared.word.Word.{Word}
-use Rattle.grammar.specs.Ascii.{all, allowed, tab, lineFeed}
-use Rattle.grammar.specs.Split.{pieces}
-use Rattle.grammar.specs.Record.{Record, field, wordOf, recordFor}
+use Rattle.tokens.specs.declared.word.Word.{Word}
+use Rattle.tokens.specs.Ascii.{all, allowed, tab, lineFeed}
+use Rattle.tokens.specs.Split.{pieces}
+use Rattle.grammar.specs.Record.{Record, field, recordFor}
+use Rattle.tokens.specs.Word.{wordOf}
 use Rattle.text.specs.Order.{mayStand, stageAfter, atEnd}
 use Rattle.text.specs.State.{State, start}
 use Rattle.text.specs.Grown.{atStage}

@@ -18,7 +18,7 @@ use Rattle.text.specs.Limits.{mostMaps, mostInputs, mostVariables}
 use Rattle.grammar.specs.Line.{nameIn}
 use Rattle.text.specs.Names.{listed, namesIn}
 use Rattle.text.specs.Routine.{mapsOf, originOf, maskedOf, outputsOf, nothing, mapAdded}
-use Rattle.grammar.specs.Limits.{mostShares}
+use Rattle.tokens.specs.Limits.{mostShares}
 use Rattle.text.specs.Known.{stateIn, Sound, Means}
 use Rattle.text.proofs.Laws.Arrays.{maps-more}
 use Rattle.text.proofs.Laws.Named.{named-more}

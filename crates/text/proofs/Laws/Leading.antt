@@ -5,10 +5,11 @@ use mathlib.Core.Path.{_≡_, refl, sym, _∙_, ap}
 use mathlib.Core.Bool.{true, false}
 use mathlib.Core.List.{List}
 use mathlib.Core.Option.{Option, none, some}
-use Rattle.grammar.specs.declared.word.Word.{Word}
-use Rattle.grammar.specs.Ascii.{all, allowed, tab}
-use Rattle.grammar.specs.Split.{pieces}
-use Rattle.grammar.specs.Record.{Record, field, wordOf, recordFor}
+use Rattle.tokens.specs.declared.word.Word.{Word}
+use Rattle.tokens.specs.Ascii.{all, allowed, tab}
+use Rattle.tokens.specs.Split.{pieces}
+use Rattle.grammar.specs.Record.{Record, field, recordFor}
+use Rattle.tokens.specs.Word.{wordOf}
 use Rattle.text.specs.Order.{mayStand, stageAfter}
 use Rattle.text.specs.State.{State}
 use Rattle.text.specs.Grown.{atStage}

@@ -8,11 +8,11 @@ use mathlib.Core.List.{List, [], _∷_}
 use lib.Dec.{ltb, eqb}
 use lib.ListN.{length, length-append}
 use borrow.Author.Tests.{ltb-false}
-use Rattle.grammar.specs.declared.word.Word.{Word}
-use Rattle.grammar.specs.declared.word.Word.the-variants.{Map, Input, Origin, Set, Xor, Mul, App, Rand}
-use Rattle.grammar.specs.declared.word.Word.the-variants.{Result, Masked, Output}
+use Rattle.tokens.specs.declared.word.Word.{Word}
+use Rattle.tokens.specs.declared.word.Word.the-variants.{Map, Input, Origin, Set, Xor, Mul, App, Rand}
+use Rattle.tokens.specs.declared.word.Word.the-variants.{Result, Masked, Output}
 use Rattle.text.specs.declared.types.Statement.{Statement}
-use Rattle.grammar.specs.Token.{Name}
+use Rattle.tokens.specs.Token.{Name}
 use Rattle.grammar.specs.Record.{Form, set, xor, mul, app, rand, Record, assign}
 use Rattle.text.specs.Order.{atStart, inMasked, mayStand, stageAfter}
 use Rattle.text.specs.State.{State, start}

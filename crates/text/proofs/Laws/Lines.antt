@@ -7,14 +7,14 @@ use mathlib.Core.List.{List, [], _∷_}
 use native.Mathlib.Omega.{arith}
 use lib.Dec.{eqb}
 use lib.ListN.{length, take, drop, length-drop, drop-of-length-le}
-use Rattle.grammar.specs.Ascii.{lineFeed, all, allowed}
-use Rattle.grammar.specs.Split.{before, pieces}
+use Rattle.tokens.specs.Ascii.{lineFeed, all, allowed}
+use Rattle.tokens.specs.Split.{before, pieces}
 use Rattle.text.specs.State.{State}
 use Rattle.text.specs.Order.{atEnd}
 use Rattle.text.specs.Read.{Reading, refused, accepted, Outcome, stop, next, takeLine, takeLast, follow}
 use Rattle.text.specs.Read.{takeLines, routine}
-use Rattle.grammar.proofs.Laws.Pieces.{pieces-whole, some-piece}
-use Rattle.grammar.proofs.Laws.Lines.{piece-cut}
+use Rattle.tokens.proofs.Laws.Pieces.{pieces-whole, some-piece}
+use Rattle.reader.proofs.Laws.Lines.{piece-cut}
 
 -- one line, ended, with what it leads to, before the lines ps
 stops : (st : State) (n e : ℕ) (l : List ℕ) (ps : List (List ℕ)) → 0 < length ps → takeLine st (n + 1) l ≡ stop e

@@ -4,10 +4,10 @@ use mathlib.Core.Path.{_≡_, refl, sym, _∙_, ap}
 use mathlib.Core.Bool.{Bool, true, false, _||_}
 use mathlib.Core.List.{List, [], _∷_, _++_, map, append-assoc, append-nil}
 use lib.ListN.{length, drop, getD, drop-of-length-le}
-use Rattle.grammar.specs.Ascii.{any}
-use Rattle.grammar.specs.Token.{Name}
+use Rattle.tokens.specs.Ascii.{any}
+use Rattle.tokens.specs.Token.{Name}
 use Rattle.text.specs.Scope.{given, repeatedIn}
-use Rattle.grammar.proofs.Laws.Scan.{drop-next}
+use Rattle.tokens.proofs.Laws.Scan.{drop-next}
 
 or-assoc : (a b c : Bool) → a || (b || c) ≡ (a || b) || c
 or-assoc true b c = refl

@@ -13,8 +13,8 @@ use borrow.Author.Tests.{eqb-true, eqb-false}
 use Rattle.text.specs.declared.types.Op.{Op}
 use Rattle.text.specs.declared.types.Op.the-variants as Op
 use Rattle.text.specs.declared.types.Statement.{Statement}
-use Rattle.grammar.specs.Ascii.{any}
-use Rattle.grammar.specs.Token.{Name}
+use Rattle.tokens.specs.Ascii.{any}
+use Rattle.tokens.specs.Token.{Name}
 use Rattle.grammar.specs.Record.{Form, shares, origin, assign, result}
 use Rattle.grammar.specs.Record.{masked}
 use Rattle.text.specs.Order.{atStart, inMaps, inInputs, inOrigin, atResult, inMasked, atEnd}

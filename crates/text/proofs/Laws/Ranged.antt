@@ -8,7 +8,7 @@ use mathlib.Core.List.{List}
 use lib.Dec.{eqb}
 use lib.ListN.{length}
 use borrow.Author.Tests.{eqb-true, not-false}
-use Rattle.grammar.specs.declared.word.Word.{Word}
+use Rattle.tokens.specs.declared.word.Word.{Word}
 use Rattle.text.specs.declared.types.Op.the-variants as Op
 use Rattle.grammar.specs.Record.{set, xor, mul, app, rand, Record, shares, origin, result}
 use Rattle.grammar.specs.Record.{masked}

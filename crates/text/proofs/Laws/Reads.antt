@@ -12,7 +12,7 @@ use borrow.Author.Tests.{ltb-true, eqb-true, not-false}
 use Rattle.text.specs.declared.types.Op.{Op}
 use Rattle.text.specs.declared.types.Op.the-variants as Op
 use Rattle.text.specs.declared.types.Statement.{Statement}
-use Rattle.grammar.specs.Token.{Name, Term, name, byte}
+use Rattle.tokens.specs.Token.{Name, Term, name, byte}
 use Rattle.grammar.specs.Record.{Form, set, xor, mul, app, rand}
 use Rattle.text.specs.Scope.{placeOf, given, missing, unknownTerm, unknownForm, drawn, operandIn, opIn}
 use Rattle.text.specs.Ranged.{Reads, ReadsOp, ReadsAbove}

@@ -5,7 +5,7 @@ use mathlib.Core.List.{List, [], _∷_, _++_, append-assoc, append-nil}
 use native.Mathlib.Omega.{arith}
 use Rattle.grammar.specs.declared.line.NameRef.{NameRef}
 use Rattle.text.specs.declared.names.Names.{Names}
-use Rattle.grammar.specs.Token.{Name}
+use Rattle.tokens.specs.Token.{Name}
 use Rattle.text.specs.Scope.{shareNames}
 use Rattle.grammar.specs.Line.{nameIn}
 use Rattle.text.specs.Names.{listed, namesIn}

@@ -7,9 +7,9 @@ use mathlib.Core.Path.{_≡_, refl}
 use mathlib.Core.Bool.{Bool, true, false, _||_}
 use lib.Dec.{eqb}
 use borrow.Author.Tests.{eqb-true}
-use Rattle.grammar.specs.declared.word.Word.{Word}
-use Rattle.grammar.specs.declared.word.Word.the-variants.{Shares, Map, Input, Origin, Set, Xor, Mul, App, Rand, Result}
-use Rattle.grammar.specs.declared.word.Word.the-variants.{Masked, Output, Unknown}
+use Rattle.tokens.specs.declared.word.Word.{Word}
+use Rattle.tokens.specs.declared.word.Word.the-variants.{Shares, Map, Input, Origin, Set, Xor, Mul, App, Rand, Result}
+use Rattle.tokens.specs.declared.word.Word.the-variants.{Masked, Output, Unknown}
 use Rattle.text.specs.Order.{mayStand, stageAfter, inMasked}
 
 either-le : (p q : Bool) {a b : ℕ} → (p ≡ true → a ≤ b) → (q ≡ true → a ≤ b) → p || q ≡ true → a ≤ b

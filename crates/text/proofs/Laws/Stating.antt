@@ -11,7 +11,7 @@ use Rattle.text.specs.declared.known.Known.{Known}
 use Rattle.text.specs.declared.types.Statement.{Statement}
 use Rattle.grammar.specs.declared.record.FormRead.{FormRead}
 use Rattle.text.specs.declared.scope.FormFound.{FormFound}
-use Rattle.grammar.specs.Token.{Name}
+use Rattle.tokens.specs.Token.{Name}
 use Rattle.grammar.specs.Record.{assign}
 use Rattle.text.specs.Order.{inMasked}
 use Rattle.text.specs.Grown.{withOrigin, withMasked}

@@ -11,7 +11,7 @@ use borrow.Author.Tests.{not-false}
 use Rattle.text.specs.declared.known.Known.{Known}
 use Rattle.grammar.specs.declared.record.FormRead.{FormRead}
 use Rattle.text.specs.declared.scope.FormFound.{FormFound}
-use Rattle.grammar.specs.Token.{_>>=_, Name}
+use Rattle.tokens.specs.Token.{_>>=_, Name}
 use Rattle.grammar.specs.Record.{Record, assign, Form}
 use Rattle.text.specs.State.{State}
 use Rattle.text.specs.Scope.{repeats, readsUnknown, exceeds, miscounts, added, statementCount, unknownForm, opIn}

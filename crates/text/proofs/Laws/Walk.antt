@@ -8,17 +8,17 @@ use lib.Dec.{eqb}
 use lib.ListN.{length, take, drop, length-drop}
 use lib.Seq.{take-all}
 use Rattle.grammar.specs.declared.line.Line.{Line}
-use Rattle.grammar.specs.declared.cursor.Cursor.{Cursor}
-use Rattle.grammar.specs.declared.cursor.Ahead.{Ahead}
-use Rattle.grammar.specs.declared.cursor.Ahead.the-variants as Ahead
+use Rattle.reader.specs.declared.cursor.Cursor.{Cursor}
+use Rattle.reader.specs.declared.cursor.Ahead.{Ahead}
+use Rattle.reader.specs.declared.cursor.Ahead.the-variants as Ahead
 use Rattle.text.specs.declared.known.Known.{Known}
 use Rattle.text.specs.declared.step.Step.{Step}
-use Rattle.grammar.specs.Ascii.{lineFeed, all, allowed}
-use Rattle.grammar.specs.Split.{pieces}
+use Rattle.tokens.specs.Ascii.{lineFeed, all, allowed}
+use Rattle.tokens.specs.Split.{pieces}
 use Rattle.text.specs.Order.{atEnd}
 use Rattle.text.specs.State.{State}
-use Rattle.grammar.specs.Cursor.{lineEnd, lookAt}
-use Rattle.grammar.proofs.Laws.Ahead.{look-line, look-unended, look-end, end-at}
+use Rattle.reader.specs.Cursor.{lineEnd, lookAt}
+use Rattle.reader.proofs.Laws.Ahead.{look-line, look-unended, look-end, end-at}
 use Rattle.text.specs.Read.{Reading, refused, accepted, stop, unless, takeLine, takeLines, routine}
 use Rattle.text.specs.Known.{stateIn}
 use Rattle.text.specs.Taken.{outcomeIn}

@@ -2,8 +2,8 @@
 use Prim.Native.Nat.{ℕ}
 use Rattle.grammar.proofs.line.hex_field.Statement.{statement}
 use Rattle.grammar.proofs.line.hex_field.Tie as tie
-use Rattle.grammar.specs.Answer.{numberRead}
-use Rattle.grammar.specs.Token.{readHex}
+use Rattle.tokens.specs.Answer.{numberRead}
+use Rattle.tokens.specs.Token.{readHex}
 use borrow.Author.Needs.{needs}
 use mathlib.Core.List.{List}
 use mathlib.Core.Path.{ap, _∙_}

@@ -3,11 +3,11 @@ use Prim.Native.Nat.{ℕ}
 use Rattle.grammar.proofs.Laws.Fields.{nameHere, name-here}
 use Rattle.grammar.proofs.line.name_field.Statement.{statement}
 use Rattle.grammar.proofs.line.name_field.Tie as tie
-use Rattle.grammar.specs.Answer.{nameRead}
+use Rattle.tokens.specs.Answer.{nameRead}
 use Rattle.grammar.specs.Line.{piecesIn, nameAt}
 use Rattle.grammar.specs.Record.{field}
-use Rattle.grammar.specs.Token.{readName}
-use Rattle.grammar.specs.declared.token.NameForm.{NameForm}
+use Rattle.tokens.specs.Token.{readName}
+use Rattle.tokens.specs.declared.token.NameForm.{NameForm}
 use borrow.Author.Needs.{needs}
 use mathlib.Core.List.{List}
 use mathlib.Core.Path.{_≡_, sym, ap, _∙_}

@@ -3,11 +3,11 @@ use Prim.Native.Nat.{ℕ}
 use Rattle.grammar.proofs.Laws.Fields.{termHere, term-here}
 use Rattle.grammar.proofs.line.term_field.Statement.{statement}
 use Rattle.grammar.proofs.line.term_field.Tie as tie
-use Rattle.grammar.specs.Answer.{termRead}
+use Rattle.tokens.specs.Answer.{termRead}
 use Rattle.grammar.specs.Line.{piecesIn, termAt}
 use Rattle.grammar.specs.Record.{field}
-use Rattle.grammar.specs.Token.{readTerm}
-use Rattle.grammar.specs.declared.token.TermForm.{TermForm}
+use Rattle.tokens.specs.Token.{readTerm}
+use Rattle.tokens.specs.declared.token.TermForm.{TermForm}
 use borrow.Author.Needs.{needs}
 use mathlib.Core.List.{List}
 use mathlib.Core.Path.{_≡_, sym, ap, _∙_}

@@ -1,13 +1,14 @@
 -- The invariant: the first `j` columns are read. Assumes nothing.
 use Prim.Native.Nat.{ℕ, _+_, _-_, _≤_, _<_}
-use Rattle.grammar.proofs.Laws.Answers.{number-back}
+use Rattle.tokens.proofs.Laws.Answers.{number-back}
 use Rattle.grammar.proofs.Laws.Each.{onto, each-pass, each-fail, each-done, columns-eleven, columns-other}
 use Rattle.grammar.proofs.lists.read_columns.Statement.{statement}
 use Rattle.grammar.proofs.lists.read_columns.Tie as tie
 use Rattle.grammar.specs.Line.{piecesIn}
 use Rattle.grammar.specs.Record.{each, field}
-use Rattle.grammar.specs.Recorded.{numberAt, columnsOf}
-use Rattle.grammar.specs.Token.{readHex}
+use Rattle.tokens.specs.Answer.{numberAt}
+use Rattle.grammar.specs.Recorded.{columnsOf}
+use Rattle.tokens.specs.Token.{readHex}
 use borrow.Author.Needs.{needs}
 use lib.ListN.{length, take, drop, set, length-set}
 use lib.Seq.{take-suc-set, take-all}

@@ -8,7 +8,7 @@ use Rattle.grammar.specs.Line.{piecesIn, nameAt}
 use Rattle.grammar.specs.Line.{nameIn}
 use Rattle.grammar.specs.Record.{each}
 use Rattle.grammar.specs.Recorded.{namesOf, namesRead}
-use Rattle.grammar.specs.Token.{Name, readName}
+use Rattle.tokens.specs.Token.{Name, readName}
 use borrow.Author.Needs.{needs}
 use lib.ListN.{length, take, drop, set, length-set}
 use lib.Seq.{take-suc-set}

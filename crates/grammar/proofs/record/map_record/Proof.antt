@@ -1,11 +1,11 @@
 -- The number of fields is wrong, or each is read by its form. Assumes nothing.
-use Rattle.grammar.proofs.Laws.Answers.{number-back}
+use Rattle.tokens.proofs.Laws.Answers.{number-back}
 use Rattle.grammar.proofs.record.map_record.Statement.{statement}
 use Rattle.grammar.proofs.record.map_record.Tie as tie
 use Rattle.grammar.specs.Line.{piecesIn}
 use Rattle.grammar.specs.Record.{field, recordFor}
 use Rattle.grammar.specs.Recorded.{recordIn, columnsOf}
-use Rattle.grammar.specs.Token.{readHex}
+use Rattle.tokens.specs.Token.{readHex}
 use borrow.Author.Needs.{needs}
 use borrow.Author.Tests.{eq-eqb, ne-eqb}
 

@@ -3,7 +3,7 @@ use Prim.Native.Nat.{ℕ}
 use Rattle.grammar.proofs.record.piece_count.Statement.{statement}
 use Rattle.grammar.proofs.record.piece_count.Tie as tie
 use Rattle.grammar.specs.Line.{piecesIn}
-use Rattle.grammar.specs.Split.{pieces}
+use Rattle.tokens.specs.Split.{pieces}
 use borrow.Author.Needs.{needs}
 use lib.ListN.{length}
 use mathlib.Core.List.{List}

@@ -10,8 +10,8 @@ use Rattle.grammar.specs.declared.line.Line.{Line}
 use Rattle.grammar.specs.declared.line.NameRead.{NameRead}
 use lib.Dec.{eqb}
 use lib.ListN.{length}
-use Rattle.grammar.specs.Token.{_>>=_, Name, readName}
-use Rattle.grammar.specs.declared.word.Word.{Word}
+use Rattle.tokens.specs.Token.{_>>=_, Name, readName}
+use Rattle.tokens.specs.declared.word.Word.{Word}
 use borrow.Author.Needs.{needs}
 use mathlib.Core.List.{List}
 use mathlib.Core.Option.{Option, some}

@@ -6,12 +6,12 @@ use lib.Seq.{length-take-le}
 use mathlib.Core.Bool.{Bool}
 use mathlib.Core.Path.{_≡_, refl, ap, sym, _∙_}
 use native.Mathlib.Omega.{arith}
-use Rattle.grammar.specs.Ascii.{any}
+use Rattle.tokens.specs.Ascii.{any}
 use Rattle.text.specs.Routine.{routineOf, originOf}
 use Rattle.text.specs.declared.types.Statement.{Statement}
 use Rattle.verdict.proofs.Laws.Parts.{getD-front}
 use Rattle.verdict.specs.Idle.{reads, used}
-use Rattle.judge.specs.Walk.{blank}
+use Rattle.survey.specs.Walk.{blank}
 use Rattle.judge.proofs.Laws.Used.{any-pass, any-stop, any-done}
 use Rattle.judge.proofs.idle.used.Statement.{statement}
 use Rattle.judge.proofs.idle.used.Tie as tie

@@ -1,7 +1,7 @@
 -- `judge::settle::decide` meets its contract. Given up in a block, given up at the output line, or decided by the
 -- difference. Assumes nothing.
 use borrow.Author.Needs.{needs}
-use Rattle.judge.proofs.Laws.Asking.{lent-kept}
+use Rattle.survey.proofs.Laws.Asking.{lent-kept}
 use Rattle.judge.proofs.Laws.Settling.{decided-unknown, decided-settled, last-over, last-fits, last-none}
 use Rattle.judge.proofs.settle.decide.Statement.{statement}
 use Rattle.judge.proofs.settle.decide.Tie as tie

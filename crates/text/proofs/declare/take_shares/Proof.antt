@@ -1,6 +1,6 @@
 -- The number is set, and `unless` forgets it where the record may not stand. Assumes nothing.
 use Rattle.grammar.specs.declared.record.Rec.the-variants as rec
-use Rattle.grammar.specs.declared.token.Number.{Number}
+use Rattle.tokens.specs.declared.token.Number.{Number}
 use Rattle.grammar.specs.Record.{shares}
 use Rattle.grammar.specs.Recorded.{recordIn}
 use Rattle.text.specs.Scope.{repeats, readsUnknown, exceeds, miscounts, added}

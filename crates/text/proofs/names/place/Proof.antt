@@ -1,14 +1,14 @@
 -- The invariant: none of the first `i` names is the one that is looked for. Assumes nothing.
 use Prim.Native.Nat.{_≤_, _<_, _-_, _+_}
 use Rattle.text.proofs.Laws.Named.{nowhere, names-length, names-at}
-use Rattle.grammar.proofs.Laws.Scan.{until-pass, until-stop, until-done}
+use Rattle.tokens.proofs.Laws.Scan.{until-pass, until-stop, until-done}
 use Rattle.text.proofs.names.place.Statement.{statement}
 use Rattle.text.proofs.names.place.Tie as tie
 use Rattle.grammar.specs.Line.{nameIn}
 use Rattle.text.specs.Names.{listed, namesIn}
 use Rattle.text.specs.Scope.{placeOf}
-use Rattle.grammar.specs.Split.{until}
-use Rattle.grammar.specs.Token.{sameName}
+use Rattle.tokens.specs.Split.{until}
+use Rattle.tokens.specs.Token.{sameName}
 use borrow.Author.Needs.{needs}
 use lib.ListN.{length, take, drop, getD, length-map}
 use mathlib.Core.List.{map}

@@ -2,7 +2,7 @@
 use Rattle.text.proofs.names.same_name.Statement.{statement}
 use Rattle.text.proofs.names.same_name.Tie as tie
 use Rattle.grammar.specs.Line.{nameIn}
-use Rattle.grammar.specs.Token.{sameName}
+use Rattle.tokens.specs.Token.{sameName}
 use borrow.Author.Needs.{needs}
 use borrow.Author.Tests.{eq-eqb, ne-eqb}
 

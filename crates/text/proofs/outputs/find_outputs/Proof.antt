@@ -4,12 +4,12 @@ use lib.ListN.{length-set}
 use native.Mathlib.Numerals.{add-one}
 use mathlib.Core.Bool.{Bool, _||_}
 use mathlib.Core.List.{map}
-use Rattle.grammar.specs.Ascii.{any}
+use Rattle.tokens.specs.Ascii.{any}
 use Rattle.text.specs.Found.{nameFound}
 use Rattle.text.specs.declared.scope.NameFound.{NameFound}
 use Rattle.text.specs.Scope.{placeOf, missing}
 use Rattle.text.proofs.Laws.Listing.{any-next, any-done, map-next, map-done}
-use Rattle.grammar.specs.Token.{Name}
+use Rattle.tokens.specs.Token.{Name}
 use Rattle.grammar.specs.Recorded.{namesRead}
 use Rattle.grammar.specs.Line.{nameIn}
 use Rattle.text.specs.Names.{namesIn}

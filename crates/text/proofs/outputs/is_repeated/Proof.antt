@@ -3,7 +3,7 @@ use mathlib.Core.List.{map}
 use Rattle.text.specs.Scope.{given, repeated, repeatedIn}
 use Rattle.text.proofs.Laws.Named.{named-more}
 use Rattle.text.proofs.Laws.Listing.{repeated-pass, repeated-hit, repeated-done}
-use Rattle.grammar.specs.Token.{Name}
+use Rattle.tokens.specs.Token.{Name}
 use Rattle.grammar.specs.Recorded.{namesRead}
 use Rattle.grammar.specs.Line.{nameIn}
 use Rattle.text.specs.Names.{listed, namesIn}

@@ -37,15 +37,15 @@ use denote.Triple.Table.{entered, cited}
 use denote.Triple.Walked.{says, Stays, stay-none-slice, walkOf, goes-none-slice, Walks, ends-at, walked, walk-meets}
 use denote.Exit.{yes}
 use denote.Triple.Clauses.{ensured, lasts}
-use Rattle.grammar.specs.declared.reader.Reader.{Reader}
-use Rattle.grammar.specs.Handed.{opened}
-use Rattle.grammar.proofs.Laws.Held.{B}
-use Rattle.grammar.proofs.reader.Reader as T
-use Rattle.grammar.proofs.reader.Reader.Laws as T′
-use Rattle.grammar.proofs.reader.open as opens
-use Rattle.grammar.proofs.reader.open.Symbol as open-def
-use Rattle.grammar.proofs.reader.open.Symbol.{name as #open}
-use Rattle.grammar.proofs.reader.open.Met as open-thm
+use Rattle.reader.specs.declared.reader.Reader.{Reader}
+use Rattle.reader.specs.Handed.{opened}
+use Rattle.reader.proofs.Laws.Held.{B}
+use Rattle.reader.proofs.reader.Reader as T
+use Rattle.reader.proofs.reader.Reader.Laws as T′
+use Rattle.reader.proofs.reader.open as opens
+use Rattle.reader.proofs.reader.open.Symbol as open-def
+use Rattle.reader.proofs.reader.open.Symbol.{name as #open}
+use Rattle.reader.proofs.reader.open.Met as open-thm
 use Rattle.text.specs.declared.read.Reading.{Reading}
 use Rattle.text.specs.Read.{readText}
 use Rattle.text.specs.Reading.{ReadingIs}
@@ -195,6 +195,6 @@ read-spec 𝓤 H 𝓜 𝓖 𝓡 =
     (tables 𝓤 H 𝓜 𝓡 code.env .C) (tables 𝓤 H 𝓜 𝓡 code.env .Λ) #read code.function (code.unfolded 𝓤 H 𝓜 𝓡)
     (read-meets 𝓤 H (𝓖 .A) (givenOf 𝓤 H 𝓜 𝓖) (𝓜 .mem) (𝓡 .run) (tablesOf 𝓤 H 𝓜 (tables 𝓤 H 𝓜 𝓡 code.env))
     (cited 𝓤 H (Open 𝓤 H (𝓖 .A) (𝓜 .mem) (𝓡 .run)) 𝓜 𝓡 code.env #open open-def.routine
-    code.calls-grammar·reader·open (open-thm.met 𝓤 H 𝓜 𝓖 𝓡))
+    code.calls-reader·reader·open (open-thm.met 𝓤 H 𝓜 𝓖 𝓡))
     (cited 𝓤 H (All 𝓤 H (𝓖 .A) (𝓜 .mem) (𝓡 .run)) 𝓜 𝓡 code.env #read-all all-def.routine
     code.calls-text·read·read-all (all-thm.met 𝓤 H 𝓜 𝓖 𝓡)))

@@ -33,11 +33,11 @@ use denote.Triple.Walked.{says, Stays, stay-none, walkOf, goes-none, Walks, ends
 use denote.Exit.{yes}
 use denote.Triple.Clauses.{ensured, lasts}
 use Rattle.text.specs.From.{ReadsOn}
-use Rattle.grammar.specs.declared.reader.Reader.{Reader}
+use Rattle.reader.specs.declared.reader.Reader.{Reader}
 use Rattle.text.specs.declared.read.Reading.{Reading}
-use Rattle.grammar.proofs.Laws.Held.{B, mach, Own, fields, passed, Parts, apart}
-use Rattle.grammar.proofs.reader.Reader as T
-use Rattle.grammar.proofs.reader.Reader.Laws as T′
+use Rattle.reader.proofs.Laws.Held.{B, mach, Own, fields, passed, Parts, apart}
+use Rattle.reader.proofs.reader.Reader as T
+use Rattle.reader.proofs.reader.Reader.Laws as T′
 use Rattle.text.proofs.read.Reading as S
 use Rattle.text.proofs.read.Reading.Laws as S′
 use Rattle.text.proofs.read.read_from as rest

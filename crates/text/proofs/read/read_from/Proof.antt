@@ -2,16 +2,16 @@
 use borrow.Author.Tests.{lt-ltb, le-ltb}
 use mathlib.Core.Bool.{Bool, cond}
 use Rattle.grammar.specs.declared.line.Line.{Line}
-use Rattle.grammar.specs.declared.cursor.Cursor.{Cursor}
+use Rattle.reader.specs.declared.cursor.Cursor.{Cursor}
 use Rattle.text.specs.Reading.{readingOf}
 use Rattle.text.specs.Known.{stateIn, Sound}
 use Rattle.text.specs.Read.{refused, takeLines}
 use Rattle.text.specs.From.{linesFrom, readFrom}
-use Rattle.grammar.specs.Split.{pieces}
-use Rattle.grammar.specs.Ascii.{lineFeed}
+use Rattle.tokens.specs.Split.{pieces}
+use Rattle.tokens.specs.Ascii.{lineFeed}
 use Rattle.text.proofs.Laws.Held.{sound-held, nothing-held, reading-refused}
-use Rattle.grammar.proofs.Laws.Ahead.{look-line, end-ge}
-use Rattle.grammar.proofs.Laws.Handed.{placed-in}
+use Rattle.reader.proofs.Laws.Ahead.{look-line, end-ge}
+use Rattle.reader.proofs.Laws.Handed.{placed-in}
 use Rattle.text.proofs.Laws.Walk.{line-refused, line-taken, text-unended, text-ended}
 use borrow.Author.Needs.{needs}
 use native.Mathlib.Omega.{arith}

@@ -3,8 +3,8 @@ use mathlib.Core.Bool.{true, false}
 use Rattle.text.specs.Taken.{outcomeIn}
 use Rattle.text.specs.Known.{stateIn}
 use Rattle.grammar.specs.Line.{piecesIn}
-use Rattle.grammar.specs.Record.{wordOf}
-use Rattle.grammar.specs.Ascii.{all, allowed}
+use Rattle.tokens.specs.Word.{wordOf}
+use Rattle.tokens.specs.Ascii.{all, allowed}
 use Rattle.text.proofs.Laws.Leading.{line-bad, line-record}
 use mathlib.Core.Path.{_≡_, ap, sym, _∙_}
 use lib.ListN.{take, drop}

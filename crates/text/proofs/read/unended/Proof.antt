@@ -1,5 +1,5 @@
 -- The bytes of the line. Assumes nothing.
-use Rattle.grammar.specs.Ascii.{all, allowed}
+use Rattle.tokens.specs.Ascii.{all, allowed}
 use Rattle.text.proofs.Laws.Held.{sound-held}
 use mathlib.Core.Bool.{Bool, true, false, cond}
 use Rattle.text.specs.Read.{refused}

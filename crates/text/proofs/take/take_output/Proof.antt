@@ -5,7 +5,7 @@ use lib.Dec.{eqb}
 use Rattle.text.proofs.Laws.Named.{names-length}
 use Rattle.text.specs.Grown.{withOutputs}
 use Rattle.grammar.specs.Recorded.{namesOf, namesRead}
-use Rattle.grammar.specs.Token.{Name, _>>=_}
+use Rattle.tokens.specs.Token.{Name, _>>=_}
 use Rattle.grammar.specs.Line.{piecesIn}
 use Rattle.grammar.specs.Record.{output}
 use Rattle.grammar.specs.Recorded.{recordIn}

@@ -1,0 +1,10 @@
+pub mod Strides
+pub mod Reads
+pub mod Compare
+pub mod Place
+pub mod Moves
+pub mod Places
+pub mod Inserting
+pub mod Outcomes
+pub mod Adding
+pub mod Terms

@@ -1,0 +1,3 @@
+// Products of polynomials in lent buffers, and their images under an affine map.
+pub mod apply;
+pub mod product;

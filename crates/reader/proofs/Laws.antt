@@ -1,0 +1,4 @@
+pub mod Ahead
+pub mod Handed
+pub mod Held
+pub mod Lines

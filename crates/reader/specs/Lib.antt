@@ -1,0 +1,3 @@
+pub mod Cursor
+pub mod Reader
+pub mod Handed

@@ -1,0 +1,10 @@
+pub mod Walks
+pub mod Counting
+pub mod Beginnings
+pub mod Filling
+pub mod Outputs
+pub mod Ends
+pub mod Traces
+pub mod Unknown
+pub mod Asking
+pub mod Surveys

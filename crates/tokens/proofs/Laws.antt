@@ -1,0 +1,4 @@
+pub mod Scan
+pub mod Pieces
+pub mod Answers
+pub mod Same

@@ -1,0 +1,155 @@
+-- The raw size of each statement from the sizes of its operands.
+-- Assumes nothing.
+use mathlib.Core.Path.{_≡_, refl, sym, ap, ap₂, _∙_, subst}
+use Prim.Native.Nat.{ℕ, zero, suc, _+_, _*_, _-_, _≤_, _<_}
+use native.Mathlib.Omega.{arith}
+use native.Mathlib.Nat.{mul-le-mul-right, mul-le-mul-left}
+use mathlib.Core.List.{List, [], _∷_}
+use lib.ListN.{length, getD, drop}
+use lib.Seq.{drop-cons, drop-length}
+use Rattle.field.specs.Maps.{coefficientsOf}
+use Rattle.poly.specs.Poly.{Poly}
+use Rattle.poly.specs.Size.{oneIf, nonzeros}
+use Rattle.text.specs.declared.types.Operand.{Operand}
+use Rattle.text.specs.declared.types.Op.{Op}
+use Rattle.text.specs.declared.types.Op.the-variants.{Set, Xor, Mul, App, Rand}
+use Rattle.text.specs.Read.{Routine}
+use Rattle.verdict.specs.Meaning.{mapAt}
+use Rattle.verdict.specs.Instances.{polynomialsOf, modulusOf, powersOf}
+use Rattle.verdict.specs.Count.{applySize, rawSize}
+use Rattle.values.specs.declared.shelf.Shelf.{Shelf}
+use Rattle.values.specs.declared.source.Source.{Source}
+use Rattle.values.specs.declared.source.Source.the-variants.{Constant, Variables, Stored}
+use Rattle.values.specs.declared.source.Scope.{Scope}
+use Rattle.values.specs.Source.{sourceSize, Fits, Located}
+use Rattle.values.specs.Raw.{mostStanding, rawIn, Mapped, SizeAsked, OperandSized, RawSized}
+use Rattle.values.specs.Load.{mostTermBytes}
+use Rattle.values.proofs.Laws.Sources.{source-length}
+
+-- ---- coefficients that are not zero, counted from the back
+
+-- behind the last there is none
+pub nonzeros-end : (l : List ℕ) (n : ℕ) → length l ≡ n → 0 ≡ nonzeros (drop n l)
+nonzeros-end l n h = ap nonzeros (sym (ap (λ (x : ℕ). drop x l) (sym h) ∙ drop-length l))
+
+nonzeros-back : (l : List ℕ) (j : ℕ) → 0 < j → j ≤ length l
+    → nonzeros (drop (j - 1) l) ≡ oneIf (getD l (j - 1) 0) + nonzeros (drop j l)
+nonzeros-back l j p h =
+    let e : suc (j - 1) ≡ j = omega arith in
+    let i : j - 1 < length l = omega arith in
+    ap nonzeros (drop-cons l (j - 1) 0 i ∙ ap (λ (x : ℕ). getD l (j - 1) 0 ∷ drop x l) e)
+
+one-if : (c : ℕ) → (c ≡ 0 → ⊥) → oneIf c ≡ 1
+one-if zero h = absurd (h refl)
+one-if (suc c) h = refl
+
+-- one that is not zero counts
+pub nonzeros-more : (l : List ℕ) (j k : ℕ) → 0 < j → j ≤ length l → (getD l (j - 1) 0 ≡ 0 → ⊥) → k ≡ nonzeros (drop j l)
+    → k + 1 ≡ nonzeros (drop (j - 1) l)
+nonzeros-more l j k p h n e = sym (nonzeros-back l j p h
+    ∙ ap₂ (λ (x y : ℕ). x + y) (one-if (getD l (j - 1) 0) n) (sym e) ∙ (let z : 1 + k ≡ k + 1 = omega arith in z))
+
+-- one that is zero does not
+pub nonzeros-same : (l : List ℕ) (j k : ℕ) → 0 < j → j ≤ length l → getD l (j - 1) 0 ≡ 0 → k ≡ nonzeros (drop j l)
+    → k ≡ nonzeros (drop (j - 1) l)
+nonzeros-same l j k p h n e = sym (nonzeros-back l j p h ∙ ap₂ (λ (x y : ℕ). oneIf x + y) n (sym e)
+    ∙ (let z : 0 + k ≡ k = omega arith in z))
+
+-- ---- an application
+
+-- a constant that is zero adds none
+pub image-zero : (n c p : ℕ) → c ≡ 0 → n * p ≡ n * p + oneIf c
+image-zero n zero p e = omega arith
+image-zero n (suc c) p e = absurd (omega arith)
+
+-- another adds one
+pub image-one : (n c p : ℕ) → (c ≡ 0 → ⊥) → n * p + 1 ≡ n * p + oneIf c
+image-one n c p h = ap (λ (x : ℕ). n * p + x) (sym (one-if c h))
+
+-- the raw size is a small number
+pub image-small : (n p : ℕ) → n ≤ 8 → p ≤ mostStanding → n * p ≤ 8 * mostStanding
+image-small n p h k = omega (arith, mul-le-mul-right p h, mul-le-mul-left 8 k)
+
+-- so is that of a product
+pub product-small : (p q : ℕ) → p ≤ mostStanding → q ≤ mostStanding → p * q ≤ mostStanding * mostStanding
+product-small p q h k = omega (arith, mul-le-mul-right q h, mul-le-mul-left mostStanding k)
+
+-- ---- an operand
+
+one-most : (c : ℕ) → oneIf c ≤ 1
+one-most zero = omega arith
+one-most (suc c) = omega arith
+
+fits-most : (w top : ℕ) (r : Source) → 0 < w → w ≤ mostTermBytes → top ≤ mostStanding → Fits w top r
+    → sourceSize r ≤ mostStanding
+unfolding sourceSize
+fits-most w top (Constant c) p h k f = omega (arith, one-most c)
+fits-most w top (Variables i j) p h k f = omega arith
+fits-most w top (Stored at j) p h k f = omega arith
+
+-- the size of an operand is that of its source
+pub operand-sized : (s : Scope) (d : Shelf) (a : Operand) (r : Source) (k : ℕ) → SizeAsked s d → Located s d a r
+    → k ≡ sourceSize r → OperandSized s d a k
+operand-sized s d a r k q l e = record {
+  means = λ m w b. e ∙ sym (source-length w b r) ∙ ap length (l .means m w b);
+  most = omega (
+    arith,
+    fits-most 17 (d .top) r (omega arith) (omega arith) (q .most)
+        (l .fits 17 (omega (arith, q .narrow .few))),
+  );
+}
+
+-- ---- a statement; x is the operation as the code has it
+
+module _ (lists : List (List ℕ)) (constants : List ℕ) (s : Scope) (d : Shelf) (x : Op) where
+  -- set: p
+  pub set-sized : (a : Operand) (k : ℕ) → x ≡ Set a → OperandSized s d a k → RawSized lists constants s d x k
+  unfolding rawIn
+  set-sized a k e h = subst (λ (o : Op). RawSized lists constants s d o k) (sym e) (λ m w b maps t. h .means m w b)
+
+  -- xor: p + q
+  pub xor-sized : (a b : Operand) (k l : ℕ) → x ≡ Xor a b → OperandSized s d a k → OperandSized s d b l
+      → RawSized lists constants s d x (k + l)
+  unfolding rawIn
+  xor-sized a b k l e h g =
+      subst (λ (o : Op). RawSized lists constants s d o (k + l)) (sym e)
+      (λ m w u maps t. ap₂ (λ (y z : ℕ). y + z) (h .means m w u) (g .means m w u))
+
+  -- mul: p · q
+  pub mul-sized : (a b : Operand) (k l : ℕ) → x ≡ Mul a b → OperandSized s d a k → OperandSized s d b l
+      → RawSized lists constants s d x (k * l)
+  unfolding rawIn
+  mul-sized a b k l e h g =
+      subst (λ (o : Op). RawSized lists constants s d o (k * l)) (sym e)
+      (λ m w u maps t. ap₂ (λ (y z : ℕ). y * z) (h .means m w u) (g .means m w u))
+
+  -- the map that is applied has a place in the table
+  pub app-place : (f : ℕ) (a : Operand) → x ≡ App f a → Mapped x → f < 8
+  app-place f a e h = subst Mapped e h
+
+  -- app: n · p, and one more where c is not 00
+  pub app-sized : (f : ℕ) (a : Operand) (k l : ℕ) → x ≡ App f a → Mapped x → OperandSized s d a k
+      → l ≡ nonzeros (getD lists f []) * k + oneIf (getD constants f 0) → RawSized lists constants s d x l
+  unfolding rawIn applySize
+  app-sized f a k l e n h g =
+      subst (λ (o : Op). RawSized lists constants s d o l) (sym e)
+      (λ m w u maps t. g
+      ∙ ap₂ (λ (y : List ℕ) (z : ℕ). nonzeros y * k + oneIf z) (t .coefficients f (app-place f a e n))
+      (t .constant f (app-place f a e n))
+      ∙ ap (λ (y : ℕ). nonzeros (coefficientsOf m (mapAt maps f .columns)) * y + oneIf (mapAt maps f .constant))
+      (h .means m w u))
+
+  -- rand: 1
+  pub rand-sized : (v : ℕ) → x ≡ Rand v → RawSized lists constants s d x 1
+  unfolding rawIn
+  rand-sized v e = subst (λ (o : Op). RawSized lists constants s d o 1) (sym e) (λ m w u maps t. refl)
+
+-- it is the raw size of the rules
+pub raw-size-of : (r : Routine) (vs : List Poly) (o : Op)
+    → rawSize r vs o ≡ rawIn (modulusOf r) (powersOf r) (r .maps) vs o
+unfolding rawIn rawSize polynomialsOf
+raw-size-of r vs (Set a) = refl
+raw-size-of r vs (Xor a b) = refl
+raw-size-of r vs (Mul a b) = refl
+raw-size-of r vs (App f a) = refl
+raw-size-of r vs (Rand v) = refl

@@ -1,0 +1,6 @@
+pub mod Shelf
+pub mod Source
+pub mod Load
+pub mod Form
+pub mod Raw
+pub mod Value

@@ -1,0 +1,62 @@
+// The raw size of a statement, from the sizes of its operands.
+use crate::shelf::Shelf;
+use crate::source::Scope;
+use crate::source::locate;
+use crate::source::size_of;
+use text::types::Op;
+use text::types::Operand;
+ghost use mathlib.Core.Path.{_≡_};
+ghost use Prim.Native.Nat.{_+_, _*_, _≤_};
+ghost use Rattle.poly.specs.Size.{oneIf, nonzeros};
+ghost use Rattle.values.specs.Raw.{mostStanding, Mapped, SizeAsked, OperandSized, RawSized};
+
+// How many terms an operand has.
+pub fn operand_size(s: Scope, d: Shelf, a: Operand) -> usize
+    requires { ⌜ SizeAsked s d ⌝ }
+    ensures { λ k. ⌜ OperandSized s d a k ⌝ }
+{
+    size_of(locate(s, d, a))
+}
+
+// How many of a map's coefficients are not 0.
+pub fn count_nonzero(list: [u8; 8]) -> usize
+    ensures { λ k. ⌜ (k ≡ nonzeros list) × (k ≤ 8) ⌝ }
+{
+    let mut k = 0;
+    let mut j = 8;
+    // those from j on are counted
+    while 0 < j {
+        j -= 1;
+        if list[j] != 0 {
+            k += 1;
+        }
+    }
+    k
+}
+
+// The raw size of an application to p terms: p for each coefficient that is not 0, and one for such
+// a constant.
+pub fn image_size(list: [u8; 8], c: u8, p: usize) -> usize
+    requires { ⌜ p ≤ mostStanding ⌝ }
+    ensures { λ k. ⌜ k ≡ nonzeros list * p + oneIf c ⌝ }
+{
+    let k = count_nonzero(list) * p;
+    if c == 0 { k } else { k + 1 }
+}
+
+// The raw size of a statement.
+pub fn raw_size(lists: [[u8; 8]; 8], constants: [u8; 8], s: Scope, d: Shelf, op: Op) -> usize
+    requires { ⌜ SizeAsked s d × Mapped op ⌝ }
+    ensures { λ k. ⌜ RawSized lists constants s d op k ⌝ }
+{
+    match op {
+        Op::Set(a) => operand_size(s, d, a),
+        Op::Xor(a, b) => operand_size(s, d, a) + operand_size(s, d, b),
+        Op::Mul(a, b) => operand_size(s, d, a) * operand_size(s, d, b),
+        Op::App(f, a) => {
+            let list = lists[f];
+            image_size(list, constants[f], operand_size(s, d, a))
+        }
+        Op::Rand(v) => 1,
+    }
+}
