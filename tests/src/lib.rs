@@ -13,6 +13,7 @@ pub mod limits;
 pub mod maps;
 pub mod plain;
 pub mod polynomial;
+pub mod printed;
 pub mod random;
 pub mod reading;
 pub mod report;

@@ -1,5 +1,7 @@
 // The stored texts, one case behind the other: a line with the name, a tab and the number of bytes,
 // then these bytes and a line feed.
+use crate::lists::print_kept;
+use crate::runs::print_run;
 use crate::show::print_word;
 ghost use Prim.Native.Nat.{_<_, _≤_};
 ghost use lib.ListN.{length};
@@ -25,7 +27,7 @@ pub(crate) fn case_at(s: &[u8], at: usize) -> Case
     Case { tab, start, end }
 }
 
-// Prints each case's name and the line of its text.
+// Prints what comes of each case.
 pub(crate) fn print_cases(s: &[u8]) {
     let mut at = 0;
     // the cases before at are printed
@@ -36,7 +38,8 @@ pub(crate) fn print_cases(s: &[u8]) {
     }
 }
 
-// Prints a case's name, a tab and the line of its text.
+// Prints a case's name, a tab and the line of its text; then what run answers, and what judge
+// leaves in its buffers.
 fn print_case(s: &[u8], at: usize, case: Case)
     requires { ⌜ Cut at case (length (now s)) ⌝ }
 {
@@ -48,6 +51,8 @@ fn print_case(s: &[u8], at: usize, case: Case)
     let mut out = [0u8; 256];
     let n = print::answer(&s[start..end], &mut out);
     print_word(&out[..n]);
+    print_run(&s[at..tab], &s[start..end]);
+    print_kept(&s[at..tab], &s[start..end]);
 }
 
 // The place behind one; at the end, the end.

@@ -1,14 +1,22 @@
-// Refusal 1 on both sides: the first stored text with byte lists and work buffers of each length.
+// The lent buffers: at their least lengths, one below and one above, and what is left in them.
 use crate::cases::case_at;
+use crate::show::end_line;
+use crate::show::print_number;
+use crate::show::print_small;
 use crate::show::print_word;
 use judge::judge;
+ghost use Prim.Native.Nat.{_≤_};
 
 // The lengths at which judge takes its buffers.
 const WORK: usize = 65280;
 
 const LIST: usize = 16;
 
-// Prints the answers for the first stored text, with each buffer at its least length and one below.
+// What every lent byte is before.
+const BEFORE: u8 = 0xff;
+
+// Prints the answers for the first stored text, with each buffer at its least length, one above and
+// one below.
 pub(crate) fn print_lists(s: &[u8]) {
     if s.len() == 0 {
         return;
@@ -17,22 +25,24 @@ pub(crate) fn print_lists(s: &[u8]) {
     let start = case.start;
     let end = case.end;
     let text = &s[start..end];
-    print_word(b"least\t");
-    print_judged(text, WORK, WORK, LIST);
-    print_word(b"short_list\t");
-    print_judged(text, WORK, WORK, LIST - 1);
-    print_word(b"short_left\t");
-    print_judged(text, WORK - 1, WORK, LIST);
-    print_word(b"short_right\t");
-    print_judged(text, WORK, WORK - 1, LIST);
+    print_judged(b"least", text, WORK, WORK, LIST);
+    print_judged(b"short_list", text, WORK, WORK, LIST - 1);
+    print_judged(b"short_left", text, WORK - 1, WORK, LIST);
+    print_judged(b"short_right", text, WORK, WORK - 1, LIST);
 }
 
-// Judges a text in buffers of these lengths and prints its line.
-fn print_judged(text: &[u8], left: usize, right: usize, list: usize) {
-    let mut lefts = [0u8; 65280];
-    let mut rights = [0u8; 65280];
-    let mut bytes = [0u8; 16];
-    if 65280 < left || 65280 < right || 16 < list {
+// Prints what a text leaves of each buffer, one byte longer than asked.
+pub(crate) fn print_kept(name: &[u8], text: &[u8]) {
+    print_judged(name, text, WORK + 1, WORK + 1, LIST + 1);
+}
+
+// Judges a text in buffers of these lengths and prints the refusal's number, and how many bytes of
+// each buffer are as they were.
+fn print_judged(name: &[u8], text: &[u8], left: usize, right: usize, list: usize) {
+    let mut lefts = [BEFORE; 65281];
+    let mut rights = [BEFORE; 65281];
+    let mut bytes = [BEFORE; 17];
+    if 65281 < left || 65281 < right || 17 < list {
         return;
     }
     let report = judge(
@@ -41,7 +51,39 @@ fn print_judged(text: &[u8], left: usize, right: usize, list: usize) {
         &mut rights[0..right],
         &mut bytes[0..list],
     );
-    let mut out = [0u8; 256];
-    let n = print::line(report, &bytes[0..0], &mut out);
-    print_word(&out[..n]);
+    print_word(name);
+    print_word(b"_kept");
+    print_small(report.refusal);
+    print_number(unchanged_work(&lefts, left));
+    print_number(unchanged_work(&rights, right));
+    print_number(unchanged_list(&bytes, list));
+    end_line();
+}
+
+// How many of the first `count` bytes of a work buffer are as they were.
+fn unchanged_work(b: &[u8; 65281], count: usize) -> usize {
+    unchanged(b, count)
+}
+
+// How many of the first `count` bytes of a byte list are as they were.
+fn unchanged_list(b: &[u8; 17], count: usize) -> usize {
+    unchanged(b, count)
+}
+
+// How many of the first `count` bytes are as they were.
+fn unchanged(b: &[u8], count: usize) -> usize {
+    let mut n: usize = 0;
+    let mut i = 0;
+    while i < b.len() && i < count {
+        n += one_if_unchanged(b[i]);
+        i += 1;
+    }
+    n
+}
+
+// 1 for a byte that is as it was, else 0.
+fn one_if_unchanged(byte: u8) -> usize
+    ensures { λ r. ⌜ r ≤ 1 ⌝ }
+{
+    if byte == BEFORE { 1 } else { 0 }
 }

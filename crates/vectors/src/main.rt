@@ -2,6 +2,7 @@
 // texts come from standard input; the first is that of the S-box.
 mod cases;
 mod lists;
+mod runs;
 mod sbox;
 mod show;
 mod tables;
@@ -11,6 +12,7 @@ fn main() {
     let n = io::read_full(libc::STDIN_FILENO, &mut input);
     tables::print_sbox();
     tables::print_coefficients();
+    runs::print_maps();
     sbox::print_run(&input[..n]);
     lists::print_lists(&input[..n]);
     cases::print_cases(&input[..n]);

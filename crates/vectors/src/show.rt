@@ -30,6 +30,17 @@ pub(crate) fn print_digit(n: u8) {
     io::write_all(STDOUT_FILENO, &one);
 }
 
+// Writes a tab and a number in decimal.
+pub(crate) fn print_number(n: usize) {
+    io::write_all(STDOUT_FILENO, b"\t");
+    io::print_decimal(STDOUT_FILENO, n as u64);
+}
+
+// Writes a tab and a byte as a number in decimal.
+pub(crate) fn print_small(byte: u8) {
+    print_number(byte as usize);
+}
+
 // Ends a line.
 pub(crate) fn end_line() {
     io::write_all(STDOUT_FILENO, b"\n");

@@ -1,8 +1,9 @@
-//! Writes the cases that the program `vectors` reads and the lines that it must print. Each line
-//! comes from the independent judge; where a text has a stored line, both must agree.
+//! Writes what the program `vectors` reads, and the lines that it must print. Each line comes from
+//! the independent judge; where a text has a stored line, both must agree.
 
 use bench_tests::examples::examples;
 use bench_tests::judge::judge;
+use bench_tests::printed::{lines, sbox_text, tables};
 use bench_tests::texts::{faults, limits, standing};
 use std::fs;
 use std::io;
@@ -60,7 +61,7 @@ fn write_all(folders: &Folders) -> io::Result<usize> {
     for folder in ["gadgets", "damaged"] {
         cases.extend(stored_cases(&folders.corpus, folder)?);
     }
-    let (mut texts, mut lines, mut wrong) = (vec![], String::new(), 0);
+    let (mut texts, mut printed, mut wrong) = (vec![], tables(), 0);
     for case in &cases {
         let line = judge(&case.text).line();
         if case.stored.as_ref().is_some_and(|stored| *stored != line) {
@@ -71,11 +72,11 @@ fn write_all(folders: &Folders) -> io::Result<usize> {
         texts.extend_from_slice(header.as_bytes());
         texts.extend_from_slice(&case.text);
         texts.push(b'\n');
-        lines.push_str(&format!("{}\t{line}", case.name));
+        printed.push_str(&lines(&case.name, &case.text));
     }
     fs::create_dir_all(&folders.out)?;
-    fs::write(folders.out.join("cases"), &texts)?;
-    fs::write(folders.out.join("lines"), lines)?;
+    fs::write(folders.out.join("stdin"), &texts)?;
+    fs::write(folders.out.join("stdout"), printed)?;
     let stored = cases.iter().filter(|case| case.stored.is_some()).count();
     println!(
         "{} cases, {} bytes; {stored} stored lines, {wrong} of them disagree",
@@ -85,15 +86,17 @@ fn write_all(folders: &Folders) -> io::Result<usize> {
     Ok(wrong)
 }
 
-/// The examples, the limits and the faults.
+/// The S-box, the examples, the limits and the faults.
 fn written_cases() -> Vec<Case> {
+    let sbox = [("sbox".to_string(), sbox_text())];
     let examples = examples()
         .into_iter()
         .map(|example| (example.name.to_string(), example.text));
     let pairs = faults::pairs()
         .into_iter()
         .map(|(name, text, _)| (name, text));
-    examples
+    sbox.into_iter()
+        .chain(examples)
         .chain(limits::both_sides())
         .chain(standing::both_sides())
         .chain(faults::short_texts())

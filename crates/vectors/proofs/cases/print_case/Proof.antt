@@ -3,6 +3,10 @@ use Rattle.print.proofs.Printed.{formed-le}
 use lib.Seq.{length-take-le}
 use mathlib.Core.Path.{sym}
 use borrow.Author.Needs.{needs}
+use Rattle.print.proofs.Printed.{formed-le}
+use lib.Seq.{length-take-le}
+use mathlib.Core.Path.{sym}
+use borrow.Author.Needs.{needs}
 use Rattle.vectors.proofs.cases.print_case.Statement.{statement}
 use Rattle.vectors.proofs.cases.print_case.Tie as tie
 
@@ -48,6 +52,48 @@ slice-aggregate-print-word-2 c = sym (length-take-le _ _ (formed-le (c .before .
 print-word-requires-3 : tie.Need-print-word-requires-3
 print-word-requires-3 c κs = search needs
 
+sub-print-run : tie.Need-sub-print-run
+sub-print-run c = search needs
+
+part-print-run-start : tie.Need-part-print-run-start
+part-print-run-start c = search needs
+
+part-print-run-end : tie.Need-part-print-run-end
+part-print-run-end c = search needs
+
+sub-print-run-2 : tie.Need-sub-print-run-2
+sub-print-run-2 c = search needs
+
+part-print-run-start-2 : tie.Need-part-print-run-start-2
+part-print-run-start-2 c = search needs
+
+part-print-run-end-2 : tie.Need-part-print-run-end-2
+part-print-run-end-2 c = search needs
+
+print-run-requires : tie.Need-print-run-requires
+print-run-requires c κs = search needs
+
+sub-print-kept : tie.Need-sub-print-kept
+sub-print-kept c = search needs
+
+part-print-kept-start : tie.Need-part-print-kept-start
+part-print-kept-start c = search needs
+
+part-print-kept-end : tie.Need-part-print-kept-end
+part-print-kept-end c = search needs
+
+sub-print-kept-2 : tie.Need-sub-print-kept-2
+sub-print-kept-2 c = search needs
+
+part-print-kept-start-2 : tie.Need-part-print-kept-start-2
+part-print-kept-start-2 c = search needs
+
+part-print-kept-end-2 : tie.Need-part-print-kept-end-2
+part-print-kept-end-2 c = search needs
+
+print-kept-requires : tie.Need-print-kept-requires
+print-kept-requires c κs = search needs
+
 returns : tie.Need-returns
 returns c = search needs
 
@@ -69,4 +115,18 @@ print-case-spec =
     array-share-prefix-out
     slice-aggregate-print-word-2
     print-word-requires-3
+    sub-print-run
+    part-print-run-start
+    part-print-run-end
+    sub-print-run-2
+    part-print-run-start-2
+    part-print-run-end-2
+    print-run-requires
+    sub-print-kept
+    part-print-kept-start
+    part-print-kept-end
+    sub-print-kept-2
+    part-print-kept-start-2
+    part-print-kept-end-2
+    print-kept-requires
     returns)
