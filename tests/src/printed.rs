@@ -12,6 +12,9 @@ use crate::texts::draft::{map_line, Draft};
 /// What every lent byte is before a text is judged.
 const BEFORE: u8 = 0xff;
 
+/// More lines than the text of the S-box has.
+const ENOUGH: usize = 40;
+
 /// The bytes that the variables get, in order.
 const BYTES: [u8; MOST_VARIABLES] = [
     0x53, 0xca, 0x01, 0xff, 0x80, 0x1b, 0x02, 0x63, 0xa5, 0x5a, 0x0e, 0xe5, 0x7d, 0x9c, 0x36, 0xc9,
@@ -53,7 +56,24 @@ pub fn tables() -> String {
     ] {
         lines += &kept_line(name, &sbox_text(), lent);
     }
-    lines
+    lines + &records(&sbox_text())
+}
+
+/// The number of each line of an accepted text, with its place and length, then its end.
+fn records(text: &[u8]) -> String {
+    let (mut lines, mut from) = (vec![], 0);
+    for (at, byte) in text.iter().enumerate() {
+        if *byte == b'\n' {
+            lines.push(format!(
+                "record\t{}\t{from}\t{}\n",
+                lines.len() + 1,
+                at - from
+            ));
+            from = at + 1;
+        }
+    }
+    lines.resize(ENOUGH, "end\n".to_string());
+    lines.concat()
 }
 
 /// What is printed for a text.

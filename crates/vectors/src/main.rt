@@ -2,6 +2,7 @@
 // texts come from standard input; the first is that of the S-box.
 mod cases;
 mod lists;
+mod records;
 mod runs;
 mod sbox;
 mod show;
@@ -15,5 +16,6 @@ fn main() {
     runs::print_maps();
     sbox::print_run(&input[..n]);
     lists::print_lists(&input[..n]);
+    records::print_records(&input[..n]);
     cases::print_cases(&input[..n]);
 }
