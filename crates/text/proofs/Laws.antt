@@ -1,9 +1,12 @@
 pub mod Named
+pub mod Alike
 pub mod Lines
 pub mod Shares
 pub mod Arrays
 pub mod Known
+pub mod Kept
 pub mod Block
+pub mod Stored
 pub mod Stages
 pub mod Finding
 pub mod Taking

@@ -1,5 +1,5 @@
 -- The limits of a text, each number once. Assumes nothing.
-use Prim.Native.Nat.{ℕ, _+_}
+use Prim.Native.Nat.{ℕ, _+_, _*_}
 
 -- the longest text that is read
 abbrev pub mostBytes : ℕ
@@ -24,3 +24,19 @@ mostStatements = 256
 -- the most names of a set: the shares of inputs are variables, and each statement gives one more
 abbrev pub mostNames : ℕ
 mostNames = mostVariables + mostStatements
+
+-- where the names of the origin set begin in the table of names; those of the maps stand first
+abbrev pub originFrom : ℕ
+originFrom = mostMaps
+
+-- where the names of the masked set begin in the table of names
+abbrev pub maskedFrom : ℕ
+maskedFrom = originFrom + mostNames
+
+-- the most names of the table
+abbrev pub mostEntries : ℕ
+mostEntries = maskedFrom + mostNames
+
+-- the numbers of the table, three for a name
+abbrev pub mostNumbers : ℕ
+mostNumbers = 3 * mostEntries

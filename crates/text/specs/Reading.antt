@@ -10,8 +10,7 @@ use Rattle.text.specs.declared.read.Reading as answer
 use Rattle.text.specs.Limits.{mostMaps, mostInputs, mostVariables, mostStatements}
 use Rattle.text.specs.Read.{Reading, refused, accepted, routine}
 use Rattle.text.specs.Order.{atEnd}
-use Rattle.text.specs.Known.{stateIn}
-use Rattle.text.specs.declared.known.Known.{Known}
+use Rattle.text.specs.Known.{Kept, stateIn}
 use Rattle.grammar.specs.declared.line.Line.{Line}
 use Rattle.tokens.specs.Ascii.{all, allowed}
 use Rattle.text.specs.Routine.{routineOf, Counted}
@@ -46,9 +45,9 @@ pub record ReadingIs (r : answer.Reading) (x : Reading) : Type 0 where
   pub held : Held (r .routine)
 
 -- the reading of a text that ends behind line n
-abbrev pub EndIs : List ℕ → Known → ℕ → answer.Reading → Type 0
-EndIs s k n r =
-    ReadingIs r (cond (eqb (k .stage) atEnd) (accepted (routine (stateIn s k) n)) (refused 6 (n + 1)))
+abbrev pub EndIs : List ℕ → Kept → ℕ → answer.Reading → Type 0
+EndIs s h n r =
+    ReadingIs r (cond (eqb (h .known .stage) atEnd) (accepted (routine (stateIn s h) n)) (refused 6 (n + 1)))
 
 -- the reading of a text whose last line lacks its line feed, behind n lines
 abbrev pub UnendedIs : List ℕ → Line → ℕ → answer.Reading → Type 0

@@ -1,8 +1,8 @@
--- The code's routine: what it stands for, what holds of that of an accepted text, and the ways in which it grows.
+-- The code's routine: what it stands for, what holds of that of an accepted text, and the one of no text.
 -- Assumes nothing.
 use Prim.Native.Nat.{ℕ, _+_, _*_, _≤_}
 use mathlib.Core.List.{List}
-use lib.ListN.{take, drop, set, replicate}
+use lib.ListN.{take, drop, replicate}
 use Rattle.text.specs.declared.types.Operand.the-variants.{Byte}
 use Rattle.text.specs.declared.types.Op.the-variants.{Set}
 use Rattle.text.specs.declared.types.Statement.{Statement}
@@ -54,8 +54,6 @@ pub record Counted (r : code.Routine) : Type 0 where
   pub statements : r .origin + r .masked ≤ mostStatements
   pub outputs : r .named ≤ mostShares
 
--- ---- the ways in which it grows
-
 -- nothing is read yet
 unfoldable pub nothing : code.Routine
 nothing =
@@ -72,58 +70,4 @@ nothing =
       outputs = replicate mostShares 0;
       named = 0;
       line = 0;
-    }
-
--- one map more
-unfoldable pub mapAdded : code.Routine → AffineMap → code.Routine
-mapAdded r f =
-    record {
-      shares = r .shares;
-      maps = set (r .maps) (r .mapped) f;
-      mapped = r .mapped + 1;
-      inputs = r .inputs;
-      variables = r .variables;
-      statements = r .statements;
-      origin = r .origin;
-      masked = r .masked;
-      result = r .result;
-      outputs = r .outputs;
-      named = r .named;
-      line = r .line;
-    }
-
--- one statement more of the origin block
-unfoldable pub originAdded : code.Routine → Statement → code.Routine
-originAdded r s =
-    record {
-      shares = r .shares;
-      maps = r .maps;
-      mapped = r .mapped;
-      inputs = r .inputs;
-      variables = r .variables;
-      statements = set (r .statements) (r .origin) s;
-      origin = r .origin + 1;
-      masked = r .masked;
-      result = r .result;
-      outputs = r .outputs;
-      named = r .named;
-      line = r .line;
-    }
-
--- one statement more of the masked block
-unfoldable pub maskedAdded : code.Routine → Statement → code.Routine
-maskedAdded r s =
-    record {
-      shares = r .shares;
-      maps = r .maps;
-      mapped = r .mapped;
-      inputs = r .inputs;
-      variables = r .variables;
-      statements = set (r .statements) (r .origin + r .masked) s;
-      origin = r .origin;
-      masked = r .masked + 1;
-      result = r .result;
-      outputs = r .outputs;
-      named = r .named;
-      line = r .line;
     }

@@ -27,7 +27,7 @@ pub const IN_MASKED: u8 = 5;
 pub const AT_END: u8 = 6;
 
 // The word may stand at the stage.
-pub fn may_stand(w: Word, stage: u8) -> bool
+pub(crate) fn may_stand(w: Word, stage: u8) -> bool
     ensures { λ r. ⌜ r ≡ mayStand w stage ⌝ }
 {
     match w {
@@ -48,7 +48,7 @@ pub fn may_stand(w: Word, stage: u8) -> bool
 }
 
 // The stage behind a word that may stand at a stage.
-pub fn stage_after(w: Word, stage: u8) -> u8
+pub(crate) fn stage_after(w: Word, stage: u8) -> u8
     ensures { λ r. ⌜ r ≡ stageAfter w stage ⌝ }
 {
     match w {
@@ -69,7 +69,7 @@ pub fn stage_after(w: Word, stage: u8) -> u8
 }
 
 // The stage is one of two.
-pub fn either(stage: u8, a: u8, b: u8) -> bool
+pub(crate) fn either(stage: u8, a: u8, b: u8) -> bool
     ensures { λ r. ⌜ r ≡ (eqb stage a || eqb stage b) ⌝ }
 {
     if stage == a {

@@ -8,9 +8,7 @@ use crate::types::Statement;
 use tokens::limits::COLUMNS;
 use tokens::limits::MOST_SHARES;
 ghost use mathlib.Core.Path.{_≡_};
-ghost use Prim.Native.Nat.{_+_, _≤_, _<_};
-ghost use Rattle.text.specs.Limits.{mostMaps, mostStatements};
-ghost use Rattle.text.specs.Routine.{nothing, mapAdded, originAdded, maskedAdded};
+ghost use Rattle.text.specs.Routine.{nothing};
 
 // The statements of the origin block stand first, those of the masked block behind them.
 pub struct Routine {
@@ -29,7 +27,7 @@ pub struct Routine {
 }
 
 // The routine of a text of which nothing is read yet.
-pub fn empty() -> Routine
+pub(crate) fn empty() -> Routine
     ensures { λ r. ⌜ r ≡ nothing ⌝ }
 {
     let map = AffineMap {
@@ -56,41 +54,4 @@ pub fn empty() -> Routine
         named: 0,
         line: 0,
     }
-}
-
-// One map more.
-pub fn with_map(r: Routine, f: AffineMap) -> Routine
-    requires { ⌜ r .mapped < mostMaps ⌝ }
-    ensures { λ q. ⌜ q ≡ mapAdded r f ⌝ }
-{
-    let mut next = r;
-    let at = r.mapped;
-    next.maps[at] = f;
-    next.mapped = at + 1;
-    next
-}
-
-// One statement more in the origin block, which is not behind the masked one.
-pub fn with_origin(r: Routine, s: Statement) -> Routine
-    requires { ⌜ r .origin < mostStatements ⌝ }
-    ensures { λ q. ⌜ q ≡ originAdded r s ⌝ }
-{
-    let mut next = r;
-    let at = r.origin;
-    next.statements[at] = s;
-    next.origin = at + 1;
-    next
-}
-
-// One statement more in the masked block.
-pub fn with_masked(r: Routine, s: Statement) -> Routine
-    requires { ⌜ r .origin + r .masked < mostStatements ⌝ }
-    ensures { λ q. ⌜ q ≡ maskedAdded r s ⌝ }
-{
-    let mut next = r;
-    let count = r.masked;
-    let at = r.origin + count;
-    next.statements[at] = s;
-    next.masked = count + 1;
-    next
 }

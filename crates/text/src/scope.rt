@@ -1,6 +1,8 @@
 // What a record reads and gives, looked up in its set.
 use crate::names;
 use crate::names::Names;
+use crate::names::Table;
+use crate::step;
 use crate::types::Op;
 use crate::types::Operand;
 use grammar::line::NameRead;
@@ -9,14 +11,11 @@ use grammar::line::TermRead;
 use grammar::record::Binary;
 use grammar::record::FormRead;
 ghost use mathlib.Core.Path.{_≡_};
-ghost use mathlib.Core.Bool.{_&&_, _||_};
-ghost use Prim.Native.Nat.{ℕ, _≤_};
+ghost use Prim.Native.Nat.{ℕ};
 ghost use Rattle.grammar.specs.declared.record.FormRead.the-variants as form;
-ghost use Rattle.grammar.specs.Line.{nameIn, nameAt, termAt};
-ghost use Rattle.text.specs.Limits.{mostNames};
-ghost use Rattle.text.specs.Scope.{given};
-ghost use Rattle.text.specs.Names.{namesIn};
-ghost use Rattle.text.specs.Found.{nameFound, termFound, mapFound, joined, TwoIs, FormIs};
+ghost use Rattle.text.specs.declared.names.Names as sets;
+ghost use Rattle.text.specs.Names.{Within};
+ghost use Rattle.text.specs.Found.{GivenIs, NameIs, TermIs, MapIs, TwoIs, FormIs, joined};
 
 // A name by its place, and whether it is not given.
 pub struct NameFound {
@@ -56,21 +55,21 @@ pub struct FormFound {
 }
 
 // The name is given in the set.
-pub fn is_given(s: &[u8], t: Names, n: NameRef) -> bool
-    requires { ⌜ t .count ≤ mostNames ⌝ }
-    ensures { λ r. ⌜ r ≡ given (nameIn (now (s .entry)) n) (namesIn (now (s .entry)) t) ⌝ }
+pub(crate) fn is_given(s: &[u8], t: &Table, set: Names, n: NameRef) -> bool
+    requires { ⌜ Within set ⌝ }
+    ensures { λ r. ⌜ GivenIs (now (s .entry)) (now (t .entry)) set n r ⌝ }
 {
-    let place = names::place(s, t, n);
-    place < t.count
+    let place = names::place(s, t, set, n);
+    place < set.count
 }
 
 // Looks a name up in a set.
-pub fn find_name(s: &[u8], t: Names, n: NameRef) -> NameFound
-    requires { ⌜ t .count ≤ mostNames ⌝ }
-    ensures { λ r. ⌜ r ≡ nameFound (namesIn (now (s .entry)) t) (nameIn (now (s .entry)) n) ⌝ }
+pub(crate) fn find_name(s: &[u8], t: &Table, set: Names, n: NameRef) -> NameFound
+    requires { ⌜ Within set ⌝ }
+    ensures { λ r. ⌜ NameIs (now (s .entry)) (now (t .entry)) set n r ⌝ }
 {
-    let place = names::place(s, t, n);
-    let given = place < t.count;
+    let place = names::place(s, t, set, n);
+    let given = place < set.count;
     NameFound {
         unknown: !given,
         place,
@@ -78,13 +77,13 @@ pub fn find_name(s: &[u8], t: Names, n: NameRef) -> NameFound
 }
 
 // Looks up an operand.
-pub fn find_term(s: &[u8], t: Names, a: TermRead) -> TermFound
-    requires { ⌜ t .count ≤ mostNames ⌝ }
-    ensures { λ r. ⌜ r ≡ termFound (namesIn (now (s .entry)) t) (termAt (now (s .entry)) a) ⌝ }
+pub(crate) fn find_term(s: &[u8], t: &Table, set: Names, a: TermRead) -> TermFound
+    requires { ⌜ Within set ⌝ }
+    ensures { λ r. ⌜ TermIs (now (s .entry)) (now (t .entry)) set a r ⌝ }
 {
     match a {
         TermRead::Name(n) => {
-            let x = find_name(s, t, n);
+            let x = find_name(s, t, set, n);
             TermFound {
                 ok: true,
                 unknown: x.unknown,
@@ -105,13 +104,13 @@ pub fn find_term(s: &[u8], t: Names, a: TermRead) -> TermFound
 }
 
 // Looks up a map.
-pub fn find_map(s: &[u8], t: Names, f: NameRead) -> MapFound
-    requires { ⌜ t .count ≤ mostNames ⌝ }
-    ensures { λ r. ⌜ r ≡ mapFound (namesIn (now (s .entry)) t) (nameAt (now (s .entry)) f) ⌝ }
+pub(crate) fn find_map(s: &[u8], t: &Table, set: Names, f: NameRead) -> MapFound
+    requires { ⌜ Within set ⌝ }
+    ensures { λ r. ⌜ MapIs (now (s .entry)) (now (t .entry)) set f r ⌝ }
 {
     match f {
         NameRead::Name(n) => {
-            let x = find_name(s, t, n);
+            let x = find_name(s, t, set, n);
             MapFound {
                 ok: true,
                 unknown: x.unknown,
@@ -127,14 +126,14 @@ pub fn find_map(s: &[u8], t: Names, f: NameRead) -> MapFound
 }
 
 // Looks up two operands.
-pub fn find_two(s: &[u8], t: Names, a: TermRead, b: TermRead) -> TwoFound
-    requires { ⌜ t .count ≤ mostNames ⌝ }
-    ensures { λ r. ⌜ TwoIs (now (s .entry)) t a b r ⌝ }
+pub(crate) fn find_two(s: &[u8], t: &Table, set: Names, a: TermRead, b: TermRead) -> TwoFound
+    requires { ⌜ Within set ⌝ }
+    ensures { λ r. ⌜ TwoIs (now (s .entry)) (now (t .entry)) set a b r ⌝ }
 {
-    let x = find_term(s, t, a);
-    let y = find_term(s, t, b);
-    let ok = both(x.ok, y.ok);
-    let unknown = one_of(x.unknown, y.unknown);
+    let x = find_term(s, t, set, a);
+    let y = find_term(s, t, set, b);
+    let ok = step::both(x.ok, y.ok);
+    let unknown = step::one_of(x.unknown, y.unknown);
     let left = x.operand;
     let right = y.operand;
     TwoFound {
@@ -145,15 +144,48 @@ pub fn find_two(s: &[u8], t: Names, a: TermRead, b: TermRead) -> TwoFound
     }
 }
 
-// Looks up the map and the operand of `app`.
-pub fn find_app(s: &[u8], t: Names, maps: Names, g: NameRead, a: TermRead) -> FormFound
-    requires { ⌜ (t .count ≤ mostNames) × (maps .count ≤ mostNames) ⌝ }
-    ensures { λ r. ⌜ ((v : ℕ) → FormIs (now (s .entry)) t maps v (form.App g a) r) ⌝ }
+// Looks up the operands of `xor` or `mul`.
+pub(crate) fn find_pair(
+    s: &[u8],
+    t: &Table,
+    set: Names,
+    g: Binary,
+    a: TermRead,
+    b: TermRead,
+) -> FormFound
+    requires { ⌜ Within set ⌝ }
+    ensures { λ r. ⌜ ((maps : sets.Names) (v : ℕ) →
+        FormIs (now (s .entry)) (now (t .entry)) set maps v (form.Two g a b) r) ⌝ }
 {
-    let x = find_map(s, maps, g);
-    let y = find_term(s, t, a);
-    let ok = both(x.ok, y.ok);
-    let unknown = one_of(x.unknown, y.unknown);
+    let x = find_two(s, t, set, a, b);
+    let left = x.left;
+    let right = x.right;
+    let op = join(g, left, right);
+    FormFound {
+        ok: x.ok,
+        unknown: x.unknown,
+        op,
+        drawn: 0,
+    }
+}
+
+// Looks up the map and the operand of `app`.
+pub(crate) fn find_app(
+    s: &[u8],
+    t: &Table,
+    set: Names,
+    maps: Names,
+    g: NameRead,
+    a: TermRead,
+) -> FormFound
+    requires { ⌜ Within set × Within maps ⌝ }
+    ensures { λ r. ⌜ ((v : ℕ) →
+        FormIs (now (s .entry)) (now (t .entry)) set maps v (form.App g a) r) ⌝ }
+{
+    let x = find_map(s, t, maps, g);
+    let y = find_term(s, t, set, a);
+    let ok = step::both(x.ok, y.ok);
+    let unknown = step::one_of(x.unknown, y.unknown);
     let operand = y.operand;
     FormFound {
         ok,
@@ -164,13 +196,20 @@ pub fn find_app(s: &[u8], t: Names, maps: Names, g: NameRead, a: TermRead) -> Fo
 }
 
 // Looks up what a statement reads; v is the next variable.
-pub fn find_form(s: &[u8], t: Names, maps: Names, v: usize, f: FormRead) -> FormFound
-    requires { ⌜ (t .count ≤ mostNames) × (maps .count ≤ mostNames) ⌝ }
-    ensures { λ r. ⌜ FormIs (now (s .entry)) t maps v f r ⌝ }
+pub(crate) fn find_form(
+    s: &[u8],
+    t: &Table,
+    set: Names,
+    maps: Names,
+    v: usize,
+    f: FormRead,
+) -> FormFound
+    requires { ⌜ Within set × Within maps ⌝ }
+    ensures { λ r. ⌜ FormIs (now (s .entry)) (now (t .entry)) set maps v f r ⌝ }
 {
     match f {
         FormRead::Set(a) => {
-            let x = find_term(s, t, a);
+            let x = find_term(s, t, set, a);
             let operand = x.operand;
             FormFound {
                 ok: x.ok,
@@ -179,19 +218,8 @@ pub fn find_form(s: &[u8], t: Names, maps: Names, v: usize, f: FormRead) -> Form
                 drawn: 0,
             }
         }
-        FormRead::Two(g, a, b) => {
-            let x = find_two(s, t, a, b);
-            let left = x.left;
-            let right = x.right;
-            let op = join(g, left, right);
-            FormFound {
-                ok: x.ok,
-                unknown: x.unknown,
-                op,
-                drawn: 0,
-            }
-        }
-        FormRead::App(g, a) => find_app(s, t, maps, g, a),
+        FormRead::Two(g, a, b) => find_pair(s, t, set, g, a, b),
+        FormRead::App(g, a) => find_app(s, t, set, maps, g, a),
         FormRead::Rand => FormFound {
             ok: true,
             unknown: false,
@@ -202,31 +230,11 @@ pub fn find_form(s: &[u8], t: Names, maps: Names, v: usize, f: FormRead) -> Form
 }
 
 // The operation on two operands, by places.
-pub fn join(f: Binary, left: Operand, right: Operand) -> Op
+pub(crate) fn join(f: Binary, left: Operand, right: Operand) -> Op
     ensures { λ r. ⌜ r ≡ joined f left right ⌝ }
 {
     match f {
         Binary::Xor => Op::Xor(left, right),
         Binary::Mul => Op::Mul(left, right),
     }
-}
-
-// Both hold.
-pub fn both(a: bool, b: bool) -> bool
-    ensures { λ r. ⌜ r ≡ (a && b) ⌝ }
-{
-    if a {
-        return b;
-    }
-    false
-}
-
-// One of them holds.
-pub fn one_of(a: bool, b: bool) -> bool
-    ensures { λ r. ⌜ r ≡ (a || b) ⌝ }
-{
-    if a {
-        return true;
-    }
-    b
 }

@@ -1,16 +1,79 @@
-// What one record leads to: its first fault, or what is known behind it.
+// What one record leads to: its first fault, or what is known behind it and what is to be stored.
 use crate::known::Known;
+use crate::types::AffineMap;
+use crate::types::Statement;
+use grammar::line::NameRef;
+use tokens::limits::COLUMNS;
 ghost use mathlib.Core.Path.{_≡_};
-ghost use Rattle.text.specs.Taken.{firstFault};
+ghost use mathlib.Core.Bool.{_&&_, _||_};
+ghost use Rattle.text.specs.Known.{statementAfter, mapAfter};
+ghost use Rattle.text.specs.Taken.{firstFault, stepOf};
 
-// A refusal's number with what was known above, or 0 with what is known behind.
+// What a record gives: nothing, a map with its name, an input's name, or a statement with its name.
+pub enum Put {
+    Nothing,
+    Map(NameRef),
+    Input(NameRef),
+    Stated(NameRef, Statement),
+}
+
+// A refusal's number, or 0 with what is known behind and what is to be stored; the map stands
+// beside it.
 pub struct Step {
     pub refusal: u8,
     pub known: Known,
+    pub put: Put,
+    pub map: AffineMap,
+}
+
+// A step that gives no map.
+pub(crate) fn make(e: u8, k: Known, p: Put) -> Step
+    ensures { λ r. ⌜ r ≡ stepOf e k p ⌝ }
+{
+    let map = AffineMap {
+        constant: 0,
+        columns: [0; COLUMNS],
+    };
+    Step {
+        refusal: e,
+        known: k,
+        put: p,
+        map,
+    }
+}
+
+// The statement behind a record, where st stood: the one that it gives, or st.
+pub(crate) fn statement_after(p: Put, st: Statement) -> Statement
+    ensures { λ r. ⌜ r ≡ statementAfter p st ⌝ }
+{
+    match p {
+        Put::Nothing => st,
+        Put::Map(x) => st,
+        Put::Input(x) => st,
+        Put::Stated(x, given) => given,
+    }
+}
+
+// The map behind a record, where f stood: the one that it gives, or f.
+pub(crate) fn map_after(p: Put, g: AffineMap, f: AffineMap) -> AffineMap
+    ensures { λ r. ⌜ r ≡ mapAfter p g f ⌝ }
+{
+    match p {
+        Put::Nothing => f,
+        Put::Map(x) => g,
+        Put::Input(x) => f,
+        Put::Stated(x, given) => f,
+    }
 }
 
 // The number of the first fault, or 0.
-pub fn first_fault(stands: bool, repeats: bool, unknown: bool, exceeds: bool, miscounts: bool) -> u8
+pub(crate) fn first_fault(
+    stands: bool,
+    repeats: bool,
+    unknown: bool,
+    exceeds: bool,
+    miscounts: bool,
+) -> u8
     ensures { λ r. ⌜ r ≡ firstFault stands repeats unknown exceeds miscounts ⌝ }
 {
     if stands {
@@ -29,4 +92,24 @@ pub fn first_fault(stands: bool, repeats: bool, unknown: bool, exceeds: bool, mi
         return 0;
     }
     6
+}
+
+// Both hold.
+pub(crate) fn both(a: bool, b: bool) -> bool
+    ensures { λ r. ⌜ r ≡ (a && b) ⌝ }
+{
+    if a {
+        return b;
+    }
+    false
+}
+
+// One of them holds.
+pub(crate) fn one_of(a: bool, b: bool) -> bool
+    ensures { λ r. ⌜ r ≡ (a || b) ⌝ }
+{
+    if a {
+        return true;
+    }
+    b
 }

@@ -3,12 +3,17 @@ use crate::assign::take_statement;
 use crate::declare::take_input;
 use crate::declare::take_map;
 use crate::declare::take_shares;
-use crate::known;
 use crate::known::Known;
+use crate::limits::MASKED_FROM;
+use crate::limits::ORIGIN_FROM;
+use crate::names::Names;
+use crate::names::Table;
 use crate::outputs;
 use crate::scope;
+use crate::step::Put;
 use crate::step::Step;
 use crate::step::first_fault;
+use crate::step::make;
 use grammar::line::Line;
 use grammar::line::NameRead;
 use grammar::lists;
@@ -24,82 +29,83 @@ ghost use Rattle.text.specs.Known.{Sound};
 ghost use Rattle.text.specs.Taken.{TookAny, TookLine, TookMark};
 
 // A record of any word; n is its line.
-pub fn take_any(s: &[u8], k: Known, l: Line, n: usize, r: Rec, stands: bool) -> Step
+pub(crate) fn take_any(
+    s: &[u8],
+    t: &Table,
+    k: Known,
+    l: Line,
+    n: usize,
+    r: Rec,
+    stands: bool,
+) -> Step
     requires { ⌜ (Inside (now s) l) × (Sound k) × (stands ≡ true → k .stage ≤ inMasked) ⌝ }
-    ensures { λ q. ⌜ TookLine (now (s .entry)) k l n stands r q ⌝ }
+    ensures { λ q. ⌜ TookLine (now (s .entry)) (now (t .entry)) k l n stands r q ⌝ }
 {
     match r {
-        Rec::Bad => Step {
-            refusal: 5,
-            known: k,
-        },
+        Rec::Bad => make(5, k, Put::Nothing),
         Rec::Shares(count) => take_shares(k, count, stands),
-        Rec::Map(x, constant) => take_map(s, k, l, x, constant, stands),
-        Rec::Input(x) => take_input(s, k, x, stands),
+        Rec::Map(x, constant) => take_map(s, t, k, l, x, constant, stands),
+        Rec::Input(x) => take_input(s, t, k, x, stands),
         Rec::Origin => take_mark(k, stands),
-        Rec::Assign(x, f) => take_statement(s, k, n, x, f, stands),
-        Rec::Result(x) => take_result(s, k, x, stands),
+        Rec::Assign(x, f) => take_statement(s, t, k, n, x, f, stands),
+        Rec::Result(x) => take_result(s, t, k, x, stands),
         Rec::Masked => take_mark(k, stands),
-        Rec::Output => take_output(s, k, l, stands),
+        Rec::Output => take_output(s, t, k, l, stands),
     }
 }
 
 // `origin` and `masked`, which add nothing.
-pub fn take_mark(k: Known, stands: bool) -> Step
+pub(crate) fn take_mark(k: Known, stands: bool) -> Step
     requires { ⌜ Sound k ⌝ }
-    ensures { λ r. ⌜ ((s : List ℕ) → TookMark s k stands r) ⌝ }
+    ensures { λ r. ⌜ ((s t : List ℕ) → TookMark s t k stands r) ⌝ }
 {
     let e = first_fault(stands, false, false, false, false);
-    Step {
-        refusal: e,
-        known: k,
-    }
+    make(e, k, Put::Nothing)
 }
 
 // `result`.
-pub fn take_result(s: &[u8], k: Known, x: NameRead, stands: bool) -> Step
+pub(crate) fn take_result(s: &[u8], t: &Table, k: Known, x: NameRead, stands: bool) -> Step
     requires { ⌜ Sound k ⌝ }
-    ensures { λ r. ⌜ TookAny (now (s .entry)) k stands (rec.Result x) r ⌝ }
+    ensures { λ r. ⌜ TookAny (now (s .entry)) (now (t .entry)) k stands (rec.Result x) r ⌝ }
 {
     match x {
         NameRead::Name(m) => {
-            let found = scope::find_name(s, k.origin, m);
+            let set = Names {
+                from: ORIGIN_FROM,
+                count: k.wholes,
+            };
+            let found = scope::find_name(s, t, set, m);
             let e = first_fault(stands, false, found.unknown, false, false);
-            let next = known::with_result(k, found.place);
-            Step {
-                refusal: e,
-                known: next,
-            }
+            let mut next = k;
+            next.result = found.place;
+            make(e, next, Put::Nothing)
         }
-        NameRead::Bad => Step {
-            refusal: 5,
-            known: k,
-        },
+        NameRead::Bad => make(5, k, Put::Nothing),
     }
 }
 
 // `output`.
-pub fn take_output(s: &[u8], k: Known, l: Line, stands: bool) -> Step
+pub(crate) fn take_output(s: &[u8], t: &Table, k: Known, l: Line, stands: bool) -> Step
     requires { ⌜ (Inside (now s) l) × (Sound k) ⌝ }
-    ensures { λ r. ⌜ ((n : ℕ) → TookLine (now (s .entry)) k l n stands rec.Output r) ⌝ }
+    ensures { λ r. ⌜ ((n : ℕ) →
+        TookLine (now (s .entry)) (now (t .entry)) k l n stands rec.Output r) ⌝ }
 {
     let read = lists::read_outputs(s, l);
     if read.ok {
+        let set = Names {
+            from: MASKED_FROM,
+            count: k.parts,
+        };
         let repeats = outputs::is_repeated(s, read);
-        let found = outputs::find_outputs(s, k.masked, read);
+        let found = outputs::find_outputs(s, t, set, read);
         let count = read.count;
-        let routine = k.routine;
-        let other = count != routine.shares;
+        let other = count != k.shares;
         let e = first_fault(stands, repeats, found.unknown, false, other);
         let places = found.places;
-        let next = known::with_outputs(k, places, count);
-        return Step {
-            refusal: e,
-            known: next,
-        };
+        let mut next = k;
+        next.outputs = places;
+        next.named = count;
+        return make(e, next, Put::Nothing);
     }
-    Step {
-        refusal: 5,
-        known: k,
-    }
+    make(5, k, Put::Nothing)
 }

@@ -1,185 +1,109 @@
--- What one more statement does to the reading state: its meaning grows as the definition says, and it stays sound.
--- Assumes nothing.
+-- What the loop holds behind a statement stands for what the definition says. Assumes nothing.
 use Prim.Native.Nat.{ℕ, _+_, _≤_, _<_}
 use native.Mathlib.Omega.{arith}
-use mathlib.Core.Path.{_≡_, sym, _∙_, subst}
-use mathlib.Core.List.{[], _∷_, _++_}
-use lib.ListN.{length, length-set}
+use mathlib.Core.Path.{_≡_, refl, sym, _∙_, ap}
+use mathlib.Core.Bool.{Bool, true, false, cond}
+use mathlib.Core.List.{List}
+use lib.Dec.{eqb}
+use lib.ListN.{length, take, drop, set}
+use lib.Seq.{take-set-le}
+use borrow.Author.Tests.{eqb-false}
 use Rattle.grammar.specs.declared.line.NameRef.{NameRef}
-use Rattle.text.specs.declared.names.Names.{Names}
+use Rattle.grammar.specs.Line.{nameIn}
 use Rattle.text.specs.declared.types.Statement.{Statement}
-use Rattle.text.specs.declared.routine.Routine.{Routine}
-use Rattle.text.specs.declared.known.Known.{Known}
+use Rattle.text.specs.declared.step.Put.the-variants.{Stated}
 use Rattle.text.specs.Order.{inMasked}
 use Rattle.text.specs.Grown.{withOrigin, withMasked}
-use Rattle.text.specs.Limits.{mostVariables, mostStatements}
-use Rattle.grammar.specs.Line.{nameIn}
-use Rattle.text.specs.Names.{listed, namesIn}
-use Rattle.text.specs.Routine.{mapsOf, originOf, maskedOf, outputsOf, originAdded, maskedAdded}
-use Rattle.text.specs.Known.{stateIn, Sound, Means}
-use Rattle.text.proofs.Laws.Arrays.{origin-more, origin-apart, masked-more, masked-apart}
-use Rattle.text.proofs.Laws.Named.{named-more}
+use Rattle.text.specs.Limits.{originFrom, maskedFrom}
+use Rattle.text.specs.Names.{namesIn, put}
+use Rattle.text.specs.Known.{Kept, kept, stateIn, Sound, Sized, StatementFits, originAdded, maskedAdded, stated}
+use Rattle.text.specs.Known.{arrays, after}
+use Rattle.text.specs.Taken.{stepOf}
+use Rattle.text.proofs.Laws.Arrays.{front-more, rest-more}
+use Rattle.text.proofs.Laws.Named.{listed-apart, listed-next}
 
--- a routine with v variables
-abbrev pub counting : ℕ → Routine → Routine
-counting v r =
-    record {
-      shares = r .shares;
-      maps = r .maps;
-      mapped = r .mapped;
-      inputs = r .inputs;
-      variables = v;
-      statements = r .statements;
-      origin = r .origin;
-      masked = r .masked;
-      result = r .result;
-      outputs = r .outputs;
-      named = r .named;
-      line = r .line;
-    }
+module _ (s : List ℕ) (h : Kept) (K : Sound (h .known)) (Z : Sized h) (drawn : ℕ) (x : NameRef) (st : Statement)
+    (f : StatementFits (h .known) drawn) where
+  -- what is held behind the statement, in the masked block or not
+  held : Bool → Kept
+  held b =
+      let k = h .known in
+      kept (put (h .names) (cond b (maskedFrom + k .parts) (originFrom + k .wholes)) x)
+      (cond b (maskedAdded k drawn) (originAdded k))
+      (arrays (h .arrays .maps) (set (h .arrays .statements) (k .origin + k .masked) st))
 
-module _ (k : Known) (K : Sound k) where
-  -- one statement more of the origin block
-  origin-grown : (x : NameRef) (st : Statement) (o : Names) → k .routine .origin + k .routine .masked < mostStatements
-      → k .routine .masked ≡ 0
-      → o .count ≡ k .origin .count + 1 → listed o ≡ listed (k .origin) ++ x ∷ []
-      → Means (record {
-        routine = originAdded (k .routine) st;
+  origin-means : h .known .masked ≡ 0 → stateIn s (held false) ≡ withOrigin (nameIn s x) st (stateIn s h)
+  unfolding held stateIn withOrigin namesIn
+  origin-means z =
+      let k = h .known in
+      let t = h .names in
+      let o = k .wholes in
+      let ss = h .arrays .statements in
+      let few : o < 272 = omega (arith, K .wholes, K .inputs, f .0) in
+      let at : k .origin + k .masked ≡ k .origin = omega (arith, z) in
+      let room : k .origin < length ss = omega (arith, Z .statements, f .0) in
+      let maps = listed-apart t (originFrom + o) x s 0 (k .mapped) (λ i a b q. omega (arith, K .mapped, b, q)) in
+      let origin = listed-next s t x originFrom o (omega (arith, few)) (Z .names) in
+      let masked =
+      listed-apart t (originFrom + o) x s maskedFrom (k .parts) (λ i a b q. omega (arith, few, a, q)) in
+      let mine =
+      ap (λ (i : ℕ). take (k .origin + 1) (set ss i st)) at ∙ front-more ss st (k .origin) room in
+      let others : take (k .masked) (drop (k .origin + 1) (set ss (k .origin + k .masked) st))
+      ≡ take (k .masked) (drop (k .origin) ss) =
+      ap (λ (n : ℕ). take n (drop (k .origin + 1) (set ss (k .origin + k .masked) st))) z
+      ∙ sym (ap (λ (n : ℕ). take n (drop (k .origin) ss)) z) in
+      λ i. record {
         stage = k .stage;
-        maps = k .maps;
-        origin = o;
-        masked = k .masked;
-      })
-      (λ s. withOrigin (nameIn s x) st (stateIn s k))
-  unfolding stateIn withOrigin originAdded mapsOf outputsOf
-  origin-grown x st o h z c e =
-      let room : k .routine .origin < length (k .routine .statements) = omega (arith, K .statements-size) in
-      record {
-        meaning = λ s i.
-            record {
-              stage = k .stage;
-              shares = k .routine .shares;
-              mapNames = namesIn s (k .maps);
-              maps = mapsOf (k .routine);
-              inputs = k .routine .inputs;
-              variables = k .routine .variables;
-              origin = record {
-                names = named-more s (k .origin) o x e i;
-                statements = origin-more (k .routine) st room i;
-              };
-              masked = record { names = namesIn s (k .masked); statements = origin-apart (k .routine) st z i };
-              result = k .routine .result;
-              outputs = outputsOf (k .routine);
-            };
-        sound =
-            record {
-              shares = K .shares;
-              mapped = K .mapped;
-              inputs = K .inputs;
-              variables = K .variables;
-              statements = omega arith;
-              named = K .named;
-              maps-size = K .maps-size;
-              statements-size = length-set (k .routine .statements) (k .routine .origin) st ∙ K .statements-size;
-              outputs-size = K .outputs-size;
-              map-names = K .map-names;
-              origin-names = omega (arith, K .origin-names);
-              masked-names = K .masked-names;
-              apart = K .apart;
-            };
+        shares = k .shares;
+        mapNames = maps i;
+        maps = take (k .mapped) (h .arrays .maps);
+        inputs = k .inputs;
+        variables = k .variables;
+        origin = record { names = origin i; statements = mine i };
+        masked = record { names = masked i; statements = others i };
+        result = k .result;
+        outputs = take (k .named) (k .outputs);
       }
 
-  -- the same, with the routine that the code made
-  pub origin-means : (x : NameRef) (st : Statement) (o : Names) (q : Routine)
-      → k .routine .origin + k .routine .masked < mostStatements
-      → k .routine .masked ≡ 0 → o .count ≡ k .origin .count + 1 → listed o ≡ listed (k .origin) ++ x ∷ []
-      → q ≡ originAdded (k .routine) st
-      → Means (record { routine = q; stage = k .stage; maps = k .maps; origin = o; masked = k .masked })
-      (λ s. withOrigin (nameIn s x) st (stateIn s k))
-  origin-means x st o q h z c e t =
-      subst
-      (λ (r : Routine). Means (record {
-        routine = r;
+  masked-means : stateIn s (held true) ≡ withMasked drawn (nameIn s x) st (stateIn s h)
+  unfolding held stateIn withMasked namesIn
+  masked-means =
+      let k = h .known in
+      let t = h .names in
+      let p = k .parts in
+      let ss = h .arrays .statements in
+      let few : p < 272 = omega (arith, K .parts, f .0, f .1) in
+      let wholes : k .wholes ≤ 272 = omega (arith, K .wholes, K .inputs, f .0) in
+      let room : k .origin + k .masked < length ss = omega (arith, Z .statements, f .0) in
+      let maps = listed-apart t (maskedFrom + p) x s 0 (k .mapped) (λ i a b q. omega (arith, K .mapped, b, q)) in
+      let origin =
+      listed-apart t (maskedFrom + p) x s originFrom (k .wholes) (λ i a b q. omega (arith, wholes, b, q)) in
+      let masked = listed-next s t x maskedFrom p (omega (arith, few)) (Z .names) in
+      let others = take-set-le (k .origin) ss (k .origin + k .masked) st (omega arith) in
+      let mine = rest-more ss st (k .origin) (k .masked) room in
+      λ i. record {
         stage = k .stage;
-        maps = k .maps;
-        origin = o;
-        masked = k .masked;
-      }) (λ s. withOrigin (nameIn s x) st (stateIn s k)))
-      (sym t) (origin-grown x st o h z c e)
-
-  -- one statement more of the masked block
-  masked-grown : (drawn : ℕ) (x : NameRef) (st : Statement) (m : Names)
-      → k .routine .origin + k .routine .masked < mostStatements
-      → k .routine .variables + drawn ≤ mostVariables → k .stage ≡ inMasked
-      → m .count ≡ k .masked .count + 1 → listed m ≡ listed (k .masked) ++ x ∷ []
-      → Means (record {
-        routine = counting (k .routine .variables + drawn) (maskedAdded (k .routine) st);
-        stage = k .stage;
-        maps = k .maps;
-        origin = k .origin;
-        masked = m;
-      })
-      (λ s. withMasked drawn (nameIn s x) st (stateIn s k))
-  unfolding stateIn withMasked maskedAdded mapsOf originOf maskedOf outputsOf
-  masked-grown drawn x st m h v g c e =
-      let room : k .routine .origin + k .routine .masked < length (k .routine .statements) =
-      omega (arith, K .statements-size) in
-      record {
-        meaning = λ s i.
-            record {
-              stage = k .stage;
-              shares = k .routine .shares;
-              mapNames = namesIn s (k .maps);
-              maps = mapsOf (k .routine);
-              inputs = k .routine .inputs;
-              variables = k .routine .variables + drawn;
-              origin = record { names = namesIn s (k .origin); statements = masked-apart (k .routine) st i };
-              masked = record {
-                names = named-more s (k .masked) m x e i;
-                statements = masked-more (k .routine) st room i;
-              };
-              result = k .routine .result;
-              outputs = outputsOf (k .routine);
-            };
-        sound =
-            record {
-              shares = K .shares;
-              mapped = K .mapped;
-              inputs = K .inputs;
-              variables = v;
-              statements = omega arith;
-              named = K .named;
-              maps-size = K .maps-size;
-              statements-size = length-set (k .routine .statements) (k .routine .origin + k .routine .masked) st
-                  ∙ K .statements-size;
-              outputs-size = K .outputs-size;
-              map-names = K .map-names;
-              origin-names = K .origin-names;
-              masked-names = omega (arith, K .masked-names);
-              apart = λ (l : k .stage < inMasked). absurd (omega arith);
-            };
+        shares = k .shares;
+        mapNames = maps i;
+        maps = take (k .mapped) (h .arrays .maps);
+        inputs = k .inputs;
+        variables = k .variables + drawn;
+        origin = record { names = origin i; statements = others i };
+        masked = record { names = masked i; statements = mine i };
+        result = k .result;
+        outputs = take (k .named) (k .outputs);
       }
 
-  -- q is the routine before its variables are counted
-  pub masked-means : (drawn : ℕ) (x : NameRef) (st : Statement) (m : Names) (q : Routine)
-      → k .routine .origin + k .routine .masked < mostStatements
-      → k .routine .variables + drawn ≤ mostVariables → k .stage ≡ inMasked
-      → m .count ≡ k .masked .count + 1 → listed m ≡ listed (k .masked) ++ x ∷ [] → q ≡ maskedAdded (k .routine) st
-      → Means (record {
-        routine = counting (k .routine .variables + drawn) q;
-        stage = k .stage;
-        maps = k .maps;
-        origin = k .origin;
-        masked = m;
-      })
-      (λ s. withMasked drawn (nameIn s x) st (stateIn s k))
-  masked-means drawn x st m q h v g c e t =
-      subst
-      (λ (r : Routine). Means (record {
-        routine = counting (k .routine .variables + drawn) r;
-        stage = k .stage;
-        maps = k .maps;
-        origin = k .origin;
-        masked = m;
-      }) (λ s. withMasked drawn (nameIn s x) st (stateIn s k)))
-      (sym t) (masked-grown drawn x st m h v g c e)
+  by : (b : Bool) → eqb (h .known .stage) inMasked ≡ b → h .known .stage ≤ inMasked
+      → stateIn s (held b)
+      ≡ cond b (withMasked drawn (nameIn s x) st (stateIn s h)) (withOrigin (nameIn s x) st (stateIn s h))
+  by true e low = masked-means
+  by false e low = origin-means (K .apart (omega (arith, low, eqb-false (h .known .stage) inMasked e)))
+
+  -- one statement more in its block
+  pub stated-means : h .known .stage ≤ inMasked
+      → stateIn s (after h (stepOf 0 (stated (h .known) drawn) (Stated x st)))
+      ≡ cond (eqb (h .known .stage) inMasked) (withMasked drawn (nameIn s x) st (stateIn s h))
+      (withOrigin (nameIn s x) st (stateIn s h))
+  unfolding after stepOf held
+  stated-means low = by (eqb (h .known .stage) inMasked) refl low

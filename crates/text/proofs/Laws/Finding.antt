@@ -107,46 +107,46 @@ module _ (ms maps : List Name) (v : ℕ) where
   app-read (some x) none = refl
   app-read (some x) (some y) = refl
 
-module _ (s : List ℕ) (t maps : Names) (v : ℕ) where
+module _ (s t : List ℕ) (ns maps : Names) (v : ℕ) where
   -- `app`, from its map and its operand
   pub app-found : (g : NameRead) (a : TermRead) {x : MapFound} {y : TermFound} {p q : Bool}
       → p ≡ x .ok && y .ok → q ≡ x .unknown || y .unknown
-      → x ≡ mapFound (namesIn s maps) (nameAt s g) → y ≡ termFound (namesIn s t) (termAt s a)
-      → FormIs s t maps v (FormRead.App g a) (appOf x y p q)
+      → x ≡ mapFound (namesIn s t maps) (nameAt s g) → y ≡ termFound (namesIn s t ns) (termAt s a)
+      → FormIs s t ns maps v (FormRead.App g a) (appOf x y p q)
   app-found g a {x = x} {y = y} h k l r =
       record {
         few = omega arith;
         told =
             (λ i. toldIn (appOf x y (h i) (k i)))
             ∙ (λ i. toldIn (appOf (l i) (r i) (l i .ok && r i .ok) (l i .unknown || r i .unknown)))
-            ∙ app-read (namesIn s t) (namesIn s maps) v (nameAt s g) (termAt s a);
+            ∙ app-read (namesIn s t ns) (namesIn s t maps) v (nameAt s g) (termAt s a);
       }
 
   module _ {f : FormRead} where
     -- the form is known
-    pub form-known : {g : FormRead} {r : FormFound} → f ≡ g → FormIs s t maps v g r → FormIs s t maps v f r
+    pub form-known : {g : FormRead} {r : FormFound} → f ≡ g → FormIs s t ns maps v g r → FormIs s t ns maps v f r
     form-known e E =
         record {
           few = E .few;
           told =
-              E .told ∙ ap (λ (x : FormRead). formTold (namesIn s t) (namesIn s maps) v (formAt s x)) (sym e);
+              E .told ∙ ap (λ (x : FormRead). formTold (namesIn s t ns) (namesIn s t maps) v (formAt s x)) (sym e);
         }
 
     -- `set`, from its operand
-    pub set-found : (a : TermRead) → f ≡ FormRead.Set a → {x : TermFound} → x ≡ termFound (namesIn s t) (termAt s a)
-        → FormIs s t maps v f (setOf x)
+    pub set-found : (a : TermRead) → f ≡ FormRead.Set a → {x : TermFound} → x ≡ termFound (namesIn s t ns) (termAt s a)
+        → FormIs s t ns maps v f (setOf x)
     set-found a e q =
         form-known e
         (record {
           few = omega arith;
           told =
-              ap (λ (y : TermFound). toldIn (setOf y)) q ∙ set-read (namesIn s t) (namesIn s maps) v (termAt s a);
+              ap (λ (y : TermFound). toldIn (setOf y)) q ∙ set-read (namesIn s t ns) (namesIn s t maps) v (termAt s a);
         })
 
     -- `xor` and `mul`, from their operands
     pub two-found : (g : Binary) (a b : TermRead) → f ≡ FormRead.Two g a b → {x : TwoFound} {op : Op}
-        → x ≡ twoFound (termFound (namesIn s t) (termAt s a)) (termFound (namesIn s t) (termAt s b))
-        → op ≡ joined g (x .left) (x .right) → FormIs s t maps v f (twoOf x op)
+        → x ≡ twoFound (termFound (namesIn s t ns) (termAt s a)) (termFound (namesIn s t ns) (termAt s b))
+        → op ≡ joined g (x .left) (x .right) → FormIs s t ns maps v f (twoOf x op)
     two-found g a b e {x = x} q o =
         form-known e
         (record {
@@ -154,11 +154,11 @@ module _ (s : List ℕ) (t maps : Names) (v : ℕ) where
           told =
               ap (λ (p : Op). toldIn (twoOf x p)) o
               ∙ ap (λ (y : TwoFound). toldIn (twoOf y (joined g (y .left) (y .right)))) q
-              ∙ two-read (namesIn s t) (namesIn s maps) v (termAt s a) (termAt s b) g;
+              ∙ two-read (namesIn s t ns) (namesIn s t maps) v (termAt s a) (termAt s b) g;
         })
 
     -- `rand`
     pub rand-found : f ≡ FormRead.Rand
-        → FormIs s t maps v f (record { ok = true; unknown = false; op = Op.Rand v; drawn = 1 })
+        → FormIs s t ns maps v f (record { ok = true; unknown = false; op = Op.Rand v; drawn = 1 })
     unfolding toldIn formTold unknownForm opIn drawn
     rand-found e = form-known e (record { few = omega arith; told = refl })

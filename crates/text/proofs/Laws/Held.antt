@@ -1,24 +1,12 @@
--- A sound state holds a routine within its limits. Assumes nothing.
+-- The routine of no text is within its limits. Assumes nothing.
 use native.Mathlib.Omega.{arith}
 use mathlib.Core.Path.{_≡_, sym, subst}
 use Rattle.text.specs.declared.routine.Routine.{Routine}
 use Rattle.text.specs.Routine.{nothing}
-use Rattle.text.specs.declared.known.Known.{Known}
-use Rattle.text.specs.Known.{Sound}
 use Rattle.text.specs.declared.read.Reading.{Reading}
 use Rattle.text.specs.Read.{refused}
 use Rattle.text.specs.Reading.{readingOf, Held}
 use borrow.Author.Tests.{ne-eqb}
-
--- a sound state
-pub sound-held : (k : Known) → Sound k → Held (k .routine)
-sound-held k K = record {
-  mapped = K .mapped;
-  inputs = K .inputs;
-  variables = K .variables;
-  statements = K .statements;
-  named = K .named;
-}
 
 none-held : Held nothing
 unfolding nothing

@@ -72,8 +72,8 @@ module _ (st : State) (n : ℕ) (w : Word) where
 
 module _ (st : State) (n : ℕ) (l : List ℕ) where
   -- refusal 3
-  pub line-bad : all allowed l ≡ false → unless 3 st ≡ takeLine st n l
-  unfolding takeLine unless
+  pub line-bad : all allowed l ≡ false → stop 3 ≡ takeLine st n l
+  unfolding takeLine
   line-bad h = simp h
 
   -- a line of allowed bytes leads where its record leads

@@ -1,14 +1,16 @@
 -- The faults of a record, and what its step leads to. Assumes nothing.
 use Prim.Native.Nat.{ℕ, zero, suc, _+_, _≤_}
 use native.Mathlib.Omega.{arith}
-use mathlib.Core.Path.{_≡_, refl, sym, _∙_, ap}
+use mathlib.Core.Path.{_≡_, refl, sym, _∙_, ap, subst}
 use mathlib.Core.Bool.{Bool, true, false, not}
 use mathlib.Core.List.{List, [], _∷_}
 use mathlib.Core.Option.{Option, none, some, Option·some-injective, Option·none-ne-some}
-use lib.ListN.{length, length-drop}
+use lib.ListN.{length, drop, length-drop}
 use lib.Seq.{length-take-le}
 use borrow.Author.Tests.{not-false}
 use Rattle.text.specs.declared.known.Known.{Known}
+use Rattle.text.specs.declared.step.Put.the-variants.{Nothing}
+use Rattle.text.specs.declared.step.Step.{Step}
 use Rattle.grammar.specs.declared.record.FormRead.{FormRead}
 use Rattle.text.specs.declared.scope.FormFound.{FormFound}
 use Rattle.tokens.specs.Token.{_>>=_, Name}
@@ -18,10 +20,9 @@ use Rattle.text.specs.Scope.{repeats, readsUnknown, exceeds, miscounts, 
 use Rattle.text.specs.Scope.{drawn}
 use Rattle.text.specs.Read.{unless}
 use Rattle.grammar.specs.Recorded.{formAt, assignIn}
-use Rattle.text.specs.Routine.{mapsOf, originOf, maskedOf}
-use Rattle.text.specs.Known.{stateIn, Sound}
+use Rattle.text.specs.Known.{Arrays, Kept, kept, stateIn, Sound, Sized, Fits, after}
 use Rattle.text.specs.Found.{formTold, toldIn, Told}
-use Rattle.text.specs.Taken.{firstFault, faultOf, takes, outcomeIn, Took}
+use Rattle.text.specs.Taken.{firstFault, faultOf, takes, stepOf, outcomeIn, Took}
 use Rattle.text.proofs.Laws.Keeping.{no-fault}
 
 -- ---- faults
@@ -38,11 +39,18 @@ no-faults stands a b c d q z =
     let u = no-fault 10 d [] (λ e. omega arith) (t .1) in
     (not-false stands (p .0), r .0, s .0, t .0, u .0)
 
--- the number of the first fault, from the answers of the four tests
-pub fault-told : (st : State) (stands : Bool) (r : Record) {e : ℕ} {a b c d : Bool} → e ≡ firstFault stands a b c d
-    → a ≡ repeats st r → b ≡ readsUnknown st r → c ≡ exceeds st r → d ≡ miscounts st r → e ≡ faultOf st stands r
+-- the answers of the four tests are those of the definition
+pub record Tested (st : State) (r : Record) (a b c d : Bool) : Type 0 where
+  pub repeats : a ≡ repeats st r
+  pub unknown : b ≡ readsUnknown st r
+  pub exceeds : c ≡ exceeds st r
+  pub miscounts : d ≡ miscounts st r
+
+fault-told : (st : State) (stands : Bool) (r : Record) {e : ℕ} {a b c d : Bool} → e ≡ firstFault stands a b c d
+    → Tested st r a b c d → e ≡ faultOf st stands r
 unfolding faultOf
-fault-told st stands r q t u v w = q ∙ (λ i. firstFault stands (t i) (u i) (v i) (w i))
+fault-told st stands r q T =
+    q ∙ (λ i. firstFault stands (T .repeats i) (T .unknown i) (T .exceeds i) (T .miscounts i))
 
 -- ---- steps
 
@@ -51,59 +59,92 @@ unfolding unless
 unless-any zero a b h = absurd (h refl)
 unless-any (suc e) a b h = refl
 
-module _ (s : List ℕ) (k : Known) (K : Sound k) (n : ℕ) (stands : Bool) {o : Option Record} where
-  -- a field is not of its form
-  pub took-bad : none ≡ o → Took s k n stands o (record { refusal = 5; known = k })
-  unfolding outcomeIn takes unless
-  took-bad t = record { outcome = ap (takes (stateIn s k) n stands) t; stage = refl; sound = K }
-
-  -- the record has a fault
-  pub took-fault : (r : Record) → some r ≡ o → {e : ℕ} → e ≡ faultOf (stateIn s k) stands r → (e ≡ 0 → ⊥)
-      → Took s k n stands o (record { refusal = e; known = k })
-  unfolding outcomeIn takes
-  took-fault r t {e = e} q z =
+module _ (s t : List ℕ) (k : Known) (K : Sound k) (n : ℕ) (stands : Bool) {o : Option Record} where
+  bad : none ≡ o → Took s t k n stands o (stepOf 5 k Nothing)
+  unfolding outcomeIn takes unless stepOf
+  bad e =
       record {
-        outcome =
-            unless-any e (stateIn s k) (added n r (stateIn s k)) z
-            ∙ ap (λ (f : ℕ). unless f (added n r (stateIn s k))) q
-            ∙ ap (takes (stateIn s k) n stands) t;
+        outcome = λ a z. ap (takes (stateIn s (kept t k a)) n stands) e;
         stage = refl;
         sound = K;
+        fits = tt;
+        stood = λ z. absurd (omega arith);
       }
 
-  -- what the record adds is in j, and e tells whether it stands
-  pub took-grown : (r : Record) → some r ≡ o → {e : ℕ} → e ≡ faultOf (stateIn s k) stands r
-      → (j : Known) → j .stage ≡ k .stage → Sound j → stateIn s j ≡ added n r (stateIn s k)
-      → Took s k n stands o (record { refusal = e; known = j })
-  unfolding outcomeIn takes
-  took-grown r t q j g J m =
-      record {
-        outcome = (λ i. unless (q i) (m i)) ∙ ap (takes (stateIn s k) n stands) t;
-        stage = g;
-        sound = J;
-      }
+  -- a field is not of its form
+  pub took-bad : none ≡ o → {r : Step} → r ≡ stepOf 5 k Nothing → Took s t k n stands o r
+  took-bad e q = subst (Took s t k n stands o) (sym q) (bad e)
+
+  module _ (q : Record) (here : some q ≡ o) {a b c d : Bool} where
+    fault : {e : ℕ} → e ≡ firstFault stands a b c d → (e ≡ 0 → ⊥)
+        → ((x : Arrays) → Sized (kept t k x) → Tested (stateIn s (kept t k x)) q a b c d)
+        → Took s t k n stands o (stepOf e k Nothing)
+    unfolding outcomeIn takes stepOf after
+    fault {e = e} f z T =
+        record {
+          outcome = λ x y.
+              let st = stateIn s (kept t k x) in
+              unless-any e st (added n q st) z
+              ∙ ap (λ (g : ℕ). unless g (added n q st)) (fault-told st stands q f (T x y))
+              ∙ ap (takes st n stands) here;
+          stage = refl;
+          sound = K;
+          fits = tt;
+          stood = λ y. absurd (z y);
+        }
+
+    -- the record has a fault
+    pub took-fault : {e : ℕ} → e ≡ firstFault stands a b c d → (e ≡ 0 → ⊥)
+        → ((x : Arrays) → Sized (kept t k x) → Tested (stateIn s (kept t k x)) q a b c d)
+        → {r : Step} → r ≡ stepOf e k Nothing → Took s t k n stands o r
+    took-fault f z T p = subst (Took s t k n stands o) (sym p) (fault f z T)
+
+    -- what the record adds is in the step, and its refusal tells whether it stands
+    pub took-grown : (r : Step) → r .refusal ≡ firstFault stands a b c d
+        → r .known .stage ≡ k .stage → Sound (r .known) → Fits k (r .put)
+        → ((x : Arrays) → Sized (kept t k x) → Tested (stateIn s (kept t k x)) q a b c d)
+        → ((x : Arrays) → Sized (kept t k x) → stateIn s (after (kept t k x) r) ≡ added n q (stateIn s (kept t k x)))
+        → Took s t k n stands o r
+    unfolding outcomeIn takes
+    took-grown r f g R F T M =
+        record {
+          outcome = λ x y.
+              let st = stateIn s (kept t k x) in
+              (λ i. unless (fault-told st stands q f (T x y) i) (M x y i)) ∙ ap (takes st n stands) here;
+          stage = g;
+          sound = R;
+          fits = F;
+          stood = λ z. no-faults stands a b c d f z .0;
+        }
+
+    -- the same where the step gives nothing but other numbers
+    pub took-set : {e : ℕ} → e ≡ firstFault stands a b c d
+        → (j : Known) → j .stage ≡ k .stage → Sound j
+        → ((x : Arrays) → Sized (kept t k x) → Tested (stateIn s (kept t k x)) q a b c d)
+        → ((x : Arrays) → stateIn s (kept t j x) ≡ added n q (stateIn s (kept t k x)))
+        → {r : Step} → r ≡ stepOf e j Nothing → Took s t k n stands o r
+    unfolding stepOf after
+    took-set {e = e} f j g R T M p =
+        subst (Took s t k n stands o) (sym p) (took-grown (stepOf e j Nothing) f g R tt T (λ x y. M x))
 
 -- ---- counts
 
-module _ (s : List ℕ) (k : Known) (K : Sound k) where
+module _ (s : List ℕ) (h : Kept) (K : Sound (h .known)) (Z : Sized h) where
   -- as many maps as are counted
-  pub maps-length : length (stateIn s k .maps) ≡ k .routine .mapped
-  unfolding stateIn mapsOf
-  maps-length =
-      let room : k .routine .mapped ≤ length (k .routine .maps) = omega (arith, K .mapped, K .maps-size) in
-      length-take-le (k .routine .mapped) (k .routine .maps) room
+  pub maps-length : length (stateIn s h .maps) ≡ h .known .mapped
+  unfolding stateIn
+  maps-length = length-take-le (h .known .mapped) (h .arrays .maps) (omega (arith, K .mapped, Z .maps))
 
   -- as many statements as are counted
-  pub statements-length : statementCount (stateIn s k) ≡ k .routine .origin + k .routine .masked
-  unfolding stateIn statementCount originOf maskedOf
+  pub statements-length : statementCount (stateIn s h) ≡ h .known .origin + h .known .masked
+  unfolding stateIn statementCount
   statements-length =
-      let room : k .routine .origin ≤ length (k .routine .statements) =
-      omega (arith, K .statements, K .statements-size) in
-      let rest : k .routine .masked ≤ length (lib.ListN.drop (k .routine .origin) (k .routine .statements)) =
-      omega (arith, K .statements, K .statements-size, length-drop (k .routine .origin) (k .routine .statements)) in
-      let a = length-take-le (k .routine .origin) (k .routine .statements) room in
-      let b = length-take-le (k .routine .masked) (lib.ListN.drop (k .routine .origin) (k .routine .statements)) rest in
-      λ i. a i + b i
+      let ss = h .arrays .statements in
+      let n = h .known .origin in
+      let m = h .known .masked in
+      let room : n ≤ length ss = omega (arith, K .statements, Z .statements) in
+      let rest : m ≤ length (drop n ss) = omega (arith, K .statements, Z .statements, length-drop n ss) in
+      λ i. length-take-le n ss room i + length-take-le m (drop n ss) rest i
 
 -- ---- statements
 

@@ -11,7 +11,6 @@ use Rattle.grammar.specs.declared.line.Line.{Line}
 use Rattle.reader.specs.declared.cursor.Cursor.{Cursor}
 use Rattle.reader.specs.declared.cursor.Ahead.{Ahead}
 use Rattle.reader.specs.declared.cursor.Ahead.the-variants as Ahead
-use Rattle.text.specs.declared.known.Known.{Known}
 use Rattle.text.specs.declared.step.Step.{Step}
 use Rattle.tokens.specs.Ascii.{lineFeed, all, allowed}
 use Rattle.tokens.specs.Split.{pieces}
@@ -20,7 +19,7 @@ use Rattle.text.specs.State.{State}
 use Rattle.reader.specs.Cursor.{lineEnd, lookAt}
 use Rattle.reader.proofs.Laws.Ahead.{look-line, look-unended, look-end, end-at}
 use Rattle.text.specs.Read.{Reading, refused, accepted, stop, unless, takeLine, takeLines, routine}
-use Rattle.text.specs.Known.{stateIn}
+use Rattle.text.specs.Known.{Kept, stateIn, after}
 use Rattle.text.specs.Taken.{outcomeIn}
 use Rattle.text.proofs.Laws.Lines.{line-stops, line-goes, text-ends, line-unended}
 
@@ -31,14 +30,14 @@ unfolding unless
 stop-at zero x h = absurd (h refl)
 stop-at (suc e) x h = refl
 
-module _ (s : List ℕ) (k : Known) (c : Cursor) {x : Reading}
-    (i : x ≡ takeLines (stateIn s k) (c .line) (pieces lineFeed (drop (c .at) s))) where
+module _ (s : List ℕ) (h : Kept) (c : Cursor) {x : Reading}
+    (i : x ≡ takeLines (stateIn s h) (c .line) (pieces lineFeed (drop (c .at) s))) where
   module _ (l : Line) (n : Cursor) (a : Ahead.Line l n ≡ lookAt s c) (r : Step)
-      (t : outcomeIn s r ≡ takeLine (stateIn s k) (n .line) (take (l .len) (drop (l .from) s))) where
-    here : outcomeIn s r ≡ takeLine (stateIn s k) (c .line + 1) (take (lineEnd s (c .at) - c .at) (drop (c .at) s))
+      (t : outcomeIn s h r ≡ takeLine (stateIn s h) (n .line) (take (l .len) (drop (l .from) s))) where
+    here : outcomeIn s h r ≡ takeLine (stateIn s h) (c .line + 1) (take (lineEnd s (c .at) - c .at) (drop (c .at) s))
     here =
         let L = look-line s c l n a in
-        t ∙ (λ j. takeLine (stateIn s k) (L .2 j .line) (take (L .1 j .len) (drop (L .1 j .from) s)))
+        t ∙ (λ j. takeLine (stateIn s h) (L .2 j .line) (take (L .1 j .len) (drop (L .1 j .from) s)))
 
     -- a line is refused
     pub line-refused : (r .refusal ≡ 0 → ⊥) → refused (r .refusal) (n .line) ≡ x
@@ -46,18 +45,19 @@ module _ (s : List ℕ) (k : Known) (c : Cursor) {x : Reading}
     line-refused z =
         let L = look-line s c l n a in
         ap (λ (m : Cursor). refused (r .refusal) (m .line)) (L .2)
-        ∙ line-stops (stateIn s k) (c .line) s (c .at) (lineEnd s (c .at)) (end-at s (c .at)) i (r .refusal) (L .0)
-        (sym here ∙ stop-at (r .refusal) (stateIn s (r .known)) z)
+        ∙ line-stops (stateIn s h) (c .line) s (c .at) (lineEnd s (c .at)) (end-at s (c .at)) i (r .refusal) (L .0)
+        (sym here ∙ stop-at (r .refusal) (stateIn s (after h r)) z)
 
-    -- a line is taken
-    pub line-taken : r .refusal ≡ 0 → x ≡ takeLines (stateIn s (r .known)) (n .line) (pieces lineFeed (drop (n .at) s))
+    -- a line is taken, and q is held behind it
+    pub line-taken : r .refusal ≡ 0 → {q : Kept} → q ≡ after h r
+        → x ≡ takeLines (stateIn s q) (n .line) (pieces lineFeed (drop (n .at) s))
     unfolding outcomeIn unless
-    line-taken z =
+    line-taken z e =
         let L = look-line s c l n a in
-        line-goes (stateIn s k) (c .line) s (c .at) (lineEnd s (c .at)) (end-at s (c .at)) i (stateIn s (r .known))
+        line-goes (stateIn s h) (c .line) s (c .at) (lineEnd s (c .at)) (end-at s (c .at)) i (stateIn s (after h r))
         (L .0)
-        (sym here ∙ ap (λ (e : ℕ). unless e (stateIn s (r .known))) z)
-        ∙ (λ j. takeLines (stateIn s (r .known)) (sym (L .2) j .line) (pieces lineFeed (drop (sym (L .2) j .at) s)))
+        (sym here ∙ ap (λ (e : ℕ). unless e (stateIn s (after h r))) z)
+        ∙ (λ j. takeLines (stateIn s (sym e j)) (sym (L .2) j .line) (pieces lineFeed (drop (sym (L .2) j .at) s)))
 
   -- the last line lacks its line feed
   pub text-unended : (l : Line) → Ahead.Unended l ≡ lookAt s c
@@ -68,11 +68,11 @@ module _ (s : List ℕ) (k : Known) (c : Cursor) {x : Reading}
       ap (λ (m : Line). refused (cond (all allowed (take (m .len) (drop (m .from) s))) 4 3) (c .line + 1)) (L .2)
       ∙ ap (λ (m : List ℕ). refused (cond (all allowed m) 4 3) (c .line + 1))
       (take-all (length s - c .at) (drop (c .at) s) size)
-      ∙ sym (line-unended (stateIn s k) (c .line) s (c .at) (lineEnd s (c .at)) (end-at s (c .at)) i (L .1) (L .0))
+      ∙ sym (line-unended (stateIn s h) (c .line) s (c .at) (lineEnd s (c .at)) (end-at s (c .at)) i (L .1) (L .0))
 
   -- the text ends
   pub text-ended : c .at ≤ length s → Ahead.End ≡ lookAt s c
-      → cond (eqb (k .stage) atEnd) (accepted (routine (stateIn s k) (c .line))) (refused 6 (c .line + 1)) ≡ x
+      → cond (eqb (h .known .stage) atEnd) (accepted (routine (stateIn s h) (c .line))) (refused 6 (c .line + 1)) ≡ x
   unfolding stateIn
-  text-ended h a = sym (text-ends (stateIn s k) (c .line) s (c .at) (lineEnd s (c .at)) (end-at s (c .at)) i h
+  text-ended l a = sym (text-ends (stateIn s h) (c .line) s (c .at) (lineEnd s (c .at)) (end-at s (c .at)) i l
       (look-end s c a))

@@ -1,9 +1,11 @@
 -- What was found for the operands decides the faults and the statement. Assumes nothing.
+use Rattle.text.specs.declared.known.Known.{Known}
+use Rattle.text.specs.declared.step.Put.the-variants.{Stated}
 use Rattle.text.specs.Names.{namesIn}
+use Rattle.text.specs.Taken.{stepOf}
 use Rattle.text.proofs.Laws.Taking.{no-faults}
 use Rattle.text.proofs.Laws.Stating.{form-bad, form-fault, form-grown, room}
-use mathlib.Core.Path.{sym, _∙_}
-use lib.ListN.{set}
+use mathlib.Core.Path.{ap, sym, _∙_}
 use borrow.Author.Needs.{needs}
 use Rattle.text.proofs.assign.take_form.Statement.{statement}
 use Rattle.text.proofs.assign.take_form.Tie as tie
@@ -23,45 +25,66 @@ is-crowded-requires c κs = search needs
 first-fault-requires : tie.Need-first-fault-requires
 first-fault-requires c κs = search needs
 
+make-requires : tie.Need-make-requires
+make-requires c κs = search needs
+
 returns : tie.Need-returns
 returns c =
+    let b2 = c .before .before in
+    let b3 = c .before .before .before in
+    let b4 = c .before .before .before .before in
+    let b5 = c .before .before .before .before .before in
     let d = c .before .before .before .before .before .before .before .before .before in
     let s = d .args .s .now in
+    let t = d .args .t .now in
     let set = c .before .before .before .before .before .before .before .block-names in
-    let form = c .before .before .before .before .before .find-form in
-    form-fault s (d .args .k) (d .pre .0) (d .args .n) (d .args .stands) (d .args .x) (d .args .f) (form .result)
-    (namesIn s (set .result)) (set .ensures .1 s) (form .ensures .told)
-    (c .before .before .before .before .if1 .taken) (c .before .first-fault .ensures)
-    (c .before .before .before .is-given .ensures) (c .before .before .is-crowded .ensures) (c .if2 .taken)
+    let form = c .before .before .before .before .before .before .find-form in
+    form-fault s t (d .args .k) (d .pre .0) (d .args .n) (d .args .stands) (d .args .x) (d .args .f) (form .result)
+    (namesIn s t (set .result)) (ap (namesIn s t) (set .ensures .1)) (form .ensures .told)
+    (b5 .if1 .taken) (b2 .first-fault .ensures) (b4 .is-given .ensures) (b3 .is-crowded .ensures)
+    (c .before .if2 .taken) (c .make .ensures)
 
 with-statement-requires : tie.Need-with-statement-requires
-with-statement-requires c κs =
-    let d = c .before .before .before .before .before .before .before .before .before in
-    let t = no-faults _ _ _ _ _ (c .before .first-fault .ensures) (c .if2 .left) in
-    let w = room (d .args .k) _ (sym (c .before .before .is-crowded .ensures) ∙ t .3) in
-    (d .pre .0, w, d .pre .1 (t .0))
+with-statement-requires c κs = search needs
+
+make-requires-2 : tie.Need-make-requires-2
+make-requires-2 c κs = search needs
 
 returns-2 : tie.Need-returns-2
 returns-2 c =
+    let b3 = c .before .before .before in
+    let b4 = c .before .before .before .before in
+    let b5 = c .before .before .before .before .before in
+    let b6 = c .before .before .before .before .before .before in
     let d = c .before .before .before .before .before .before .before .before .before .before in
     let s = d .args .s .now in
+    let t = d .args .t .now in
     let set = c .before .before .before .before .before .before .before .before .block-names in
-    let form = c .before .before .before .before .before .before .find-form in
-    form-grown s (d .args .k) (d .pre .0) (d .args .n) (d .args .stands) (d .args .x) (d .args .f) (form .result)
-    (namesIn s (set .result)) (set .ensures .1 s) (form .ensures .told)
-    (c .before .before .before .before .before .if1 .taken) (c .before .before .first-fault .ensures)
-    (c .before .before .before .before .is-given .ensures) (c .before .before .before .is-crowded .ensures)
-    (c .before .if2 .left)
-    (c .with-statement .result) (c .with-statement .ensures .0) (c .with-statement .ensures .1)
+    let form = c .before .before .before .before .before .before .before .find-form in
+    let free = no-faults _ _ _ _ _ (b3 .first-fault .ensures) (c .before .before .if2 .left) in
+    let fit = room (d .args .k) _ (sym (b4 .is-crowded .ensures) ∙ free .3) in
+    form-grown s t (d .args .k) (d .pre .0) (d .args .n) (d .args .stands) (d .args .x) (d .args .f) (form .result)
+    (namesIn s t (set .result)) (ap (namesIn s t) (set .ensures .1)) (form .ensures .told)
+    (b6 .if1 .taken) (b3 .first-fault .ensures) (b5 .is-given .ensures) (b4 .is-crowded .ensures)
+    (c .before .before .if2 .left) fit (d .pre .1 (free .0))
+    (c .make2 .ensures ∙ ap (λ (j : Known). stepOf 0 j (Stated (d .args .x) (record {
+      op = form .result .op;
+      line = d .args .n;
+    }))) (c .before .with-statement .ensures))
+
+make-requires-3 : tie.Need-make-requires-3
+make-requires-3 c κs = search needs
 
 returns-3 : tie.Need-returns-3
 returns-3 c =
     let d = c .before .before .before .before .before in
     let s = d .args .s .now in
+    let t = d .args .t .now in
     let set = c .before .before .before .block-names in
-    let form = c .before .find-form in
-    form-bad s (d .args .k) (d .pre .0) (d .args .n) (d .args .stands) (d .args .x) (d .args .f) (form .result)
-    (namesIn s (set .result)) (set .ensures .1 s) (form .ensures .told) (c .if1 .left)
+    let form = c .before .before .find-form in
+    form-bad s t (d .args .k) (d .pre .0) (d .args .n) (d .args .stands) (d .args .x) (d .args .f) (form .result)
+    (namesIn s t (set .result)) (ap (namesIn s t) (set .ensures .1)) (form .ensures .told) (c .before .if1 .left)
+    (c .make3 .ensures)
 
 pub take-form-spec : {M : Type 1} → statement M
 take-form-spec =
@@ -72,7 +95,10 @@ take-form-spec =
     is-given-requires
     is-crowded-requires
     first-fault-requires
+    make-requires
     returns
     with-statement-requires
+    make-requires-2
     returns-2
+    make-requires-3
     returns-3)

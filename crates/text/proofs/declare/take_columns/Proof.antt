@@ -2,17 +2,17 @@
 use mathlib.Core.Option.{none, some}
 use borrow.Author.Tests.{ltb-false}
 use lib.Dec.{ltb}
-use Rattle.text.proofs.Laws.Taking.{no-faults, maps-length}
 use Rattle.grammar.specs.Recorded.{columnsOf, mapIn}
-use Rattle.grammar.specs.Line.{piecesIn}
-use Rattle.grammar.specs.Line.{nameIn}
+use Rattle.grammar.specs.Line.{piecesIn, nameIn}
 use Rattle.grammar.specs.Record.{map}
 use Rattle.text.specs.Scope.{repeats, readsUnknown, exceeds, miscounts, added}
 use Rattle.text.specs.Limits.{mostMaps}
-use Rattle.text.specs.Known.{stateIn}
-use Rattle.text.proofs.Laws.Taking.{fault-told, took-bad, took-fault, took-grown}
+use Rattle.text.specs.Known.{kept, stateIn}
+use Rattle.text.proofs.Laws.Known.{steady}
+use Rattle.text.proofs.Laws.Kept.{map-means}
+use Rattle.text.proofs.Laws.Taking.{no-faults, maps-length, took-bad, took-fault, took-grown}
 use native.Mathlib.Omega.{arith}
-use Prim.Native.Nat.{ℕ, _+_}
+use Prim.Native.Nat.{ℕ, _+_, _<_}
 use mathlib.Core.Path.{_≡_, refl, ap, sym, _∙_}
 use borrow.Author.Needs.{needs}
 use Rattle.text.proofs.declare.take_columns.Statement.{statement}
@@ -30,55 +30,71 @@ add-many c = search needs
 first-fault-requires : tie.Need-first-fault-requires
 first-fault-requires c κs = search needs
 
+make-requires : tie.Need-make-requires
+make-requires c κs = search needs
+
 returns : tie.Need-returns
 unfolding repeats readsUnknown exceeds miscounts stateIn
 returns c = λ n.
     let d = c .before .before .before .before .before .before .before .before in
     let k = d .args .k in
     let s = d .args .s .now in
+    let t = d .args .t .now in
+    let x = nameIn s (d .args .x) in
     let R = c .before .before .before .before .before .before .read-columns in
     let here : some (R .result .bytes) ≡ columnsOf (piecesIn s (d .args .l)) =
     sym (simp (c .before .before .before .before .before .if1 .taken)) ∙ R .ensures in
-    let f = map (nameIn s (d .args .x)) (d .args .constant) (R .result .bytes) in
-    took-fault s k (d .pre .1) n (d .args .stands) f (ap (mapIn (nameIn s (d .args .x)) (d .args .constant)) here)
-    (fault-told (stateIn s k) (d .args .stands) f (c .before .first-fault .ensures)
-    (c .before .before .before .before .is-given .ensures) refl
-    (ap (λ (i : ℕ). ltb mostMaps (i + 1)) (sym (maps-length s k (d .pre .1)))) refl)
-    (c .if2 .taken)
+    took-fault s t k (d .pre .1) n (d .args .stands) (map x (d .args .constant) (R .result .bytes))
+    (ap (mapIn x (d .args .constant)) here) (c .before .before .first-fault .ensures) (c .before .if2 .taken)
+    (λ y z. record {
+      repeats = c .before .before .before .before .is-given .ensures;
+      unknown = refl;
+      exceeds = ap (λ (i : ℕ). ltb mostMaps (i + 1)) (sym (maps-length s (kept t k y) (d .pre .1) z));
+      miscounts = refl;
+    }) (c .make .ensures)
 
-with-map-requires : tie.Need-with-map-requires
-with-map-requires c κs =
-    let d = c .before .before .before .before .before .before .before .before .before in
-    let t = no-faults _ _ _ _ _ (c .before .before .first-fault .ensures) (c .before .if2 .left) in
-    let few = ltb-false mostMaps (d .args .k .routine .mapped + 1) (t .3) in
-    (d .pre .1, omega (arith, few))
+add-next : tie.Need-add-next
+add-next c = search needs
 
 returns-2 : tie.Need-returns-2
 unfolding repeats readsUnknown exceeds miscounts added stateIn
 returns-2 c = λ n.
-    let d = c .before .before .before .before .before .before .before .before .before .before in
+    let b2 = c .before .before in
+    let b3 = c .before .before .before in
+    let d = c .before .before .before .before .before .before .before .before .before in
     let k = d .args .k in
+    let K = d .pre .1 in
     let s = d .args .s .now in
-    let R = c .before .before .before .before .before .before .before .before .read-columns in
+    let t = d .args .t .now in
+    let x = nameIn s (d .args .x) in
+    let R = c .before .before .before .before .before .before .before .read-columns in
     let here : some (R .result .bytes) ≡ columnsOf (piecesIn s (d .args .l)) =
-    sym (simp (c .before .before .before .before .before .before .before .if1 .taken)) ∙ R .ensures in
-    let f = map (nameIn s (d .args .x)) (d .args .constant) (R .result .bytes) in
-    let E = c .with-map .ensures in
-    took-grown s k (d .pre .1) n (d .args .stands) f (ap (mapIn (nameIn s (d .args .x)) (d .args .constant)) here)
-    (sym (c .before .before .if2 .left) ∙ fault-told (stateIn s k) (d .args .stands) f
-    (c .before .before .before .first-fault .ensures)
-    (c .before .before .before .before .before .before .is-given .ensures) refl
-    (ap (λ (i : ℕ). ltb mostMaps (i + 1)) (sym (maps-length s k (d .pre .1)))) refl)
-    (c .with-map .result) (E .0) (E .1 .sound) (E .1 .meaning s)
+    sym (simp (c .before .before .before .before .before .before .if1 .taken)) ∙ R .ensures in
+    let free = no-faults _ _ _ _ _ (b3 .first-fault .ensures) (b2 .if2 .left) in
+    let few : k .mapped < mostMaps = omega (arith, ltb-false mostMaps (k .mapped + 1) (free .3)) in
+    took-grown s t k K n (d .args .stands) (map x (d .args .constant) (R .result .bytes))
+    (ap (mapIn x (d .args .constant)) here) _ (sym (b2 .if2 .left) ∙ b3 .first-fault .ensures) refl
+    (steady k K (k .stage) (k .shares) (k .mapped + 1) (k .result) (k .outputs) (k .named) (K .shares)
+    (omega (arith, few)) (K .named) (K .apart)) few
+    (λ y z. record {
+      repeats = c .before .before .before .before .before .is-given .ensures;
+      unknown = refl;
+      exceeds = ap (λ (i : ℕ). ltb mostMaps (i + 1)) (sym (maps-length s (kept t k y) K z));
+      miscounts = refl;
+    })
+    (λ y z. map-means s (kept t k y) K z (d .args .x) _ _ few refl)
+
+make-requires-2 : tie.Need-make-requires-2
+make-requires-2 c κs = search needs
 
 returns-3 : tie.Need-returns-3
 returns-3 c = λ n.
-    let d = c .before .before .before in
+    let d = c .before .before .before .before in
     let s = d .args .s .now in
-    let R = c .before .read-columns in
-    let here : none ≡ columnsOf (piecesIn s (d .args .l)) = sym (simp (c .if1 .left)) ∙ R .ensures in
-    took-bad s (d .args .k) (d .pre .1) n (d .args .stands)
-    (ap (mapIn (nameIn s (d .args .x)) (d .args .constant)) here)
+    let R = c .before .before .read-columns in
+    let here : none ≡ columnsOf (piecesIn s (d .args .l)) = sym (simp (c .before .if1 .left)) ∙ R .ensures in
+    took-bad s (d .args .t .now) (d .args .k) (d .pre .1) n (d .args .stands)
+    (ap (mapIn (nameIn s (d .args .x)) (d .args .constant)) here) (c .make2 .ensures)
 
 pub take-columns-spec : {M : Type 1} → statement M
 take-columns-spec =
@@ -88,7 +104,9 @@ take-columns-spec =
     is-given-requires
     add-many
     first-fault-requires
+    make-requires
     returns
-    with-map-requires
+    add-next
     returns-2
+    make-requires-2
     returns-3)

@@ -1,23 +1,39 @@
 -- The faults of an input, or one input more. Assumes nothing.
 use borrow.Author.Tests.{ltb-false}
 use lib.Dec.{ltb}
-use Rattle.text.proofs.Laws.Reads.{or-false}
-use Rattle.text.proofs.Laws.Taking.{no-faults}
 use Rattle.grammar.specs.Line.{nameIn}
 use Rattle.grammar.specs.Record.{input}
 use Rattle.grammar.specs.declared.record.Rec.the-variants as rec
 use Rattle.grammar.specs.declared.line.NameRead.{NameRead}
 use Rattle.grammar.specs.Recorded.{recordIn}
+use Rattle.text.specs.declared.known.Known.{Known}
+use Rattle.text.specs.declared.step.Put.the-variants.{Input}
+use Rattle.text.specs.declared.step.Step.{Step}
 use Rattle.text.specs.Scope.{repeats, readsUnknown, exceeds, miscounts, added}
 use Rattle.text.specs.Limits.{mostInputs, mostVariables}
-use Rattle.text.specs.Known.{stateIn}
-use Rattle.text.proofs.Laws.Taking.{fault-told, took-bad, took-fault, took-grown}
+use Rattle.text.specs.Known.{kept, stateIn, InputFits, inputAdded}
+use Rattle.text.specs.Taken.{stepOf, Took}
+use Rattle.text.proofs.Laws.Reads.{or-false}
+use Rattle.text.proofs.Laws.Known.{input-sound}
+use Rattle.text.proofs.Laws.Kept.{input-means}
+use Rattle.text.proofs.Laws.Taking.{no-faults, took-bad, took-fault, took-grown}
 use native.Mathlib.Omega.{arith}
 use Prim.Native.Nat.{_+_}
-use mathlib.Core.Path.{refl, ap, sym, _∙_}
+use mathlib.Core.Path.{refl, ap, sym, _∙_, subst}
 use borrow.Author.Needs.{needs}
 use Rattle.text.proofs.declare.take_input.Statement.{statement}
 use Rattle.text.proofs.declare.take_input.Tie as tie
+
+-- one input more is within the limits
+room : (c : tie.Else1)
+    → InputFits (c .before .before .before .before .before .before .before .before .before .before .args .k)
+room c =
+    let k = c .before .before .before .before .before .before .before .before .before .before .args .k in
+    let t = no-faults _ _ _ _ _ (c .before .first-fault .ensures) (c .if1 .left) in
+    let u = or-false (ltb mostInputs (k .inputs + 1)) (ltb mostVariables (k .variables + k .shares))
+    (sym (c .before .before .one-of .ensures) ∙ t .3) in
+    let few = ltb-false mostInputs (k .inputs + 1) (u .0) in
+    (omega (arith, few), ltb-false mostVariables (k .variables + k .shares) (u .1))
 
 enum-known-x : tie.Need-enum-known-x
 enum-known-x c = search needs
@@ -37,58 +53,73 @@ one-of-requires c κs = search needs
 first-fault-requires : tie.Need-first-fault-requires
 first-fault-requires c κs = search needs
 
+make-requires : tie.Need-make-requires
+make-requires c κs = search needs
+
 returns : tie.Need-returns
 unfolding recordIn repeats readsUnknown exceeds miscounts stateIn
 returns c = λ ps n.
     let d = c .before .before .before .before .before .before .before .before .before .before .before in
-    let k = d .args .k in
     let s = d .args .s .now in
     let x = c .before .before .before .before .before .before .before .before .x in
-    let f = input (nameIn s (x .given .0 .0)) in
-    took-fault s k (d .pre) n (d .args .stands) f
+    took-fault s (d .args .t .now) (d .args .k) (d .pre) n (d .args .stands) (input (nameIn s (x .given .0 .0)))
     (ap (λ (y : NameRead). recordIn s ps (rec.Input y)) (sym (x .given .1)))
-    (fault-told (stateIn s k) (d .args .stands) f (c .before .first-fault .ensures)
-    (c .before .before .before .before .before .before .is-given .ensures) refl
-    (c .before .before .one-of .ensures) refl)
-    (c .if1 .taken)
+    (c .before .before .first-fault .ensures) (c .before .if1 .taken)
+    (λ y z. record {
+      repeats = c .before .before .before .before .before .before .is-given .ensures;
+      unknown = refl;
+      exceeds = c .before .before .before .one-of .ensures;
+      miscounts = refl;
+    }) (c .make .ensures)
 
 with-input-requires : tie.Need-with-input-requires
 with-input-requires c κs =
-    let d = c .before .before .before .before .before .before .before .before .before .before .before in
-    let r = d .args .k .routine in
-    let t = no-faults _ _ _ _ _ (c .before .first-fault .ensures) (c .if1 .left) in
-    let u = or-false (ltb mostInputs (r .inputs + 1)) (ltb mostVariables (r .variables + r .shares))
-    (sym (c .before .before .one-of .ensures) ∙ t .3) in
-    let few = ltb-false mostInputs (r .inputs + 1) (u .0) in
-    (d .pre, (omega (arith, few), ltb-false mostVariables (r .variables + r .shares) (u .1)))
+    let b10 = c .before .before .before .before .before .before .before .before .before .before in
+    (b10 .pre, room c)
+
+make-requires-2 : tie.Need-make-requires-2
+make-requires-2 c κs = search needs
 
 enum-told : tie.Need-enum-told
 enum-told c = search needs
 
+make-requires-3 : tie.Need-make-requires-3
+make-requires-3 c κs = search needs
+
 returns-2 : tie.Need-returns-2
-unfolding recordIn repeats readsUnknown exceeds miscounts added stateIn
+unfolding recordIn repeats readsUnknown exceeds miscounts added stateIn stepOf
 returns-2 c = λ ps n.
+    let b2 = c .before .before in
+    let b3 = c .before .before .before in
     let d = c .before .before .before .before .before .before .before .before .before .before .before .before in
     let k = d .args .k in
     let s = d .args .s .now in
+    let t = d .args .t .now in
     let x = c .before .before .before .before .before .before .before .before .before .x in
-    let f = input (nameIn s (x .given .0 .0)) in
-    let E = c .with-input .ensures in
-    took-grown s k (d .pre) n (d .args .stands) f
+    let m = x .given .0 .0 in
+    let fit = room (b2) in
+    let e = c .make2 .ensures ∙ ap (λ (j : Known). stepOf 0 j (Input m)) (c .before .with-input .ensures) in
+    let o = recordIn s ps (rec.Input (d .args .x)) in
+    subst (λ (r : Step). Took s t k n (d .args .stands) o r) (sym e)
+    (took-grown s t k (d .pre) n (d .args .stands) (input (nameIn s m))
     (ap (λ (y : NameRead). recordIn s ps (rec.Input y)) (sym (x .given .1)))
-    (sym (c .before .if1 .left) ∙ fault-told (stateIn s k) (d .args .stands) f
-    (c .before .before .first-fault .ensures)
-    (c .before .before .before .before .before .before .before .is-given .ensures) refl
-    (c .before .before .before .one-of .ensures) refl)
-    (c .with-input .result) (E .0) (E .1 .sound) (E .1 .meaning s)
+    (stepOf 0 (inputAdded k) (Input m)) (sym (b2 .if1 .left) ∙ b3 .first-fault .ensures) refl
+    (input-sound k (d .pre) fit) fit
+    (λ y z. record {
+      repeats = c .before .before .before .before .before .before .before .is-given .ensures;
+      unknown = refl;
+      exceeds = c .before .before .before .before .one-of .ensures;
+      miscounts = refl;
+    })
+    (λ y z. input-means s (kept t k y) (d .pre) z m fit))
 
 returns-3 : tie.Need-returns-3
 unfolding recordIn
 returns-3 c = λ ps n.
-    let d = c .before .before .before in
+    let d = c .before .before .before .before in
     let s = d .args .s .now in
-    took-bad s (d .args .k) (d .pre) n (d .args .stands)
-    (ap (λ (y : NameRead). recordIn s ps (rec.Input y)) (sym (c .enum-told .given .1)))
+    took-bad s (d .args .t .now) (d .args .k) (d .pre) n (d .args .stands)
+    (ap (λ (y : NameRead). recordIn s ps (rec.Input y)) (sym (c .before .enum-told .given .1))) (c .make3 .ensures)
 
 pub take-input-spec : {M : Type 1} → statement M
 take-input-spec =
@@ -100,8 +131,11 @@ take-input-spec =
     add-over
     one-of-requires
     first-fault-requires
+    make-requires
     returns
     with-input-requires
+    make-requires-2
     enum-told
+    make-requires-3
     returns-2
     returns-3)

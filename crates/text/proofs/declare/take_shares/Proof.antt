@@ -4,8 +4,11 @@ use Rattle.tokens.specs.declared.token.Number.{Number}
 use Rattle.grammar.specs.Record.{shares}
 use Rattle.grammar.specs.Recorded.{recordIn}
 use Rattle.text.specs.Scope.{repeats, readsUnknown, exceeds, miscounts, added}
+use Rattle.text.specs.Grown.{withShares}
 use Rattle.text.specs.Known.{stateIn}
-use Rattle.text.proofs.Laws.Taking.{fault-told, took-bad, took-grown}
+use Rattle.text.proofs.Laws.Known.{steady}
+use Rattle.text.proofs.Laws.Taking.{took-bad, took-set}
+use Prim.Native.Nat.{_≤_}
 use mathlib.Core.Path.{refl, ap, sym}
 use borrow.Author.Needs.{needs}
 use Rattle.text.proofs.declare.take_shares.Statement.{statement}
@@ -17,34 +20,39 @@ enum-known-count c = search needs
 first-fault-requires : tie.Need-first-fault-requires
 first-fault-requires c κs = search needs
 
-cast-with-shares : tie.Need-cast-with-shares
-cast-with-shares c = search needs
+cast-next : tie.Need-cast-next
+cast-next c = search needs
 
-with-shares-requires : tie.Need-with-shares-requires
-with-shares-requires c κs = search needs
+make-requires : tie.Need-make-requires
+make-requires c κs = search needs
 
 enum-told : tie.Need-enum-told
 enum-told c = search needs
 
+make-requires-2 : tie.Need-make-requires-2
+make-requires-2 c κs = search needs
+
 returns : tie.Need-returns
-unfolding recordIn repeats readsUnknown exceeds miscounts added
-returns c = λ s ps n.
+unfolding recordIn repeats readsUnknown exceeds miscounts added withShares stateIn
+returns c = λ s t ps n.
     let d = c .before .before .before .before .before in
+    let k = d .args .k in
+    let K = d .pre in
     let v = c .before .before .before .count .given .0 .0 in
-    let known = c .before .before .before .count .given .1 in
-    let E = c .with-shares .ensures in
-    took-grown s (d .args .k) (d .pre) n (d .args .stands) (shares v)
-    (ap (λ (x : Number). recordIn s ps (rec.Shares x)) (sym known))
-    (fault-told (stateIn s (d .args .k)) (d .args .stands) (shares v)
-    (c .before .first-fault .ensures) refl refl refl refl)
-    (c .with-shares .result) (E .0) (E .1 .sound) (E .1 .meaning s)
+    let few : v ≤ 255 = search needs in
+    took-set s t k K n (d .args .stands) (shares v)
+    (ap (λ (x : Number). recordIn s ps (rec.Shares x)) (sym (c .before .before .before .count .given .1)))
+    (c .before .first-fault .ensures) _ refl
+    (steady k K (k .stage) v (k .mapped) (k .result) (k .outputs) (k .named) few (K .mapped) (K .named) (K .apart))
+    (λ x z. record { repeats = refl; unknown = refl; exceeds = refl; miscounts = refl })
+    (λ x. refl) (c .make .ensures)
 
 returns-2 : tie.Need-returns-2
-unfolding recordIn repeats readsUnknown exceeds miscounts added
-returns-2 c = λ s ps n.
-    let d = c .before .before in
-    took-bad s (d .args .k) (d .pre) n (d .args .stands)
-    (ap (λ (x : Number). recordIn s ps (rec.Shares x)) (sym (c .enum-told .given .1)))
+unfolding recordIn
+returns-2 c = λ s t ps n.
+    let d = c .before .before .before in
+    took-bad s t (d .args .k) (d .pre) n (d .args .stands)
+    (ap (λ (x : Number). recordIn s ps (rec.Shares x)) (sym (c .before .enum-told .given .1))) (c .make2 .ensures)
 
 pub take-shares-spec : {M : Type 1} → statement M
 take-shares-spec =
@@ -52,8 +60,9 @@ take-shares-spec =
     (tie.spec
     enum-known-count
     first-fault-requires
-    cast-with-shares
-    with-shares-requires
+    cast-next
+    make-requires
     enum-told
+    make-requires-2
     returns
     returns-2)

@@ -19,20 +19,20 @@ use native.Mathlib.Omega.{arith}
 use Prim.Native.Nat.{ℕ, _≤_, _<_, _+_, _-_}
 use mathlib.Core.Path.{_≡_, refl, ap, sym, _∙_}
 use mathlib.Core.List.{List, [], _∷_, _++_}
-use lib.ListN.{length, take, drop, set}
+use lib.ListN.{length, take, drop}
 use Rattle.text.proofs.outputs.find_outputs.Statement.{statement}
 use Rattle.text.proofs.outputs.find_outputs.Tie as tie
 
 abbrev Inv-loop : tie.InvT-loop
-Inv-loop s t items count places₀ unknown₀ i₀ places unknown i =
+Inv-loop s t set items count places₀ unknown₀ i₀ places unknown i =
     (i ≤ count) × (length places ≡ 8)
-    × (any (missing (namesIn s t)) (map (nameIn s) (take count items)) ≡ unknown || any (missing (namesIn s t))
+    × (any (missing (namesIn s t set)) (map (nameIn s) (take count items)) ≡ unknown || any (missing (namesIn s t set))
     (drop i (map (nameIn s) (take count items))))
-    × (map (λ x. placeOf x (namesIn s t)) (map (nameIn s) (take count items)) ≡ take i places ++ map
-    (λ x. placeOf x (namesIn s t)) (drop i (map (nameIn s) (take count items))))
+    × (map (λ x. placeOf x (namesIn s t set)) (map (nameIn s) (take count items)) ≡ take i places ++ map
+    (λ x. placeOf x (namesIn s t set)) (drop i (map (nameIn s) (take count items))))
 
 abbrev μ-loop : tie.MeasureT-loop
-μ-loop s t items count places₀ unknown₀ i₀ places unknown i = count - i
+μ-loop s t set items count places₀ unknown₀ i₀ places unknown i = count - i
 
 loop-holds : tie.Need-loop-holds Inv-loop μ-loop
 loop-holds c = (omega arith, refl, refl, refl)
@@ -73,7 +73,7 @@ loop-again c =
     let long = names-length s items count size in
     let L = c .before .before .before .before .loop in
     let i = L .i in
-    let ms = namesIn s (d .args .t) in
+    let ms = namesIn s (d .args .t .now) (d .args .set) in
     let f : Name → ℕ = λ x. placeOf x ms in
     let here = names-at s items count size i (omega arith) in
     let found = c .before .find-name in
@@ -81,7 +81,7 @@ loop-again c =
     let absent = ap (λ (y : NameFound). y .unknown) (found .ensures) ∙ ap (missing ms) (sym here) in
     let placed = ap (λ (y : NameFound). y .place) (found .ensures) ∙ ap f (sym here) in
     let room : i < length (L .places) = omega arith in
-    let longer : take (i + 1) (set (L .places) i place) ≡ take i (L .places) ++ place ∷ [] =
+    let longer : take (i + 1) (lib.ListN.set (L .places) i place) ≡ take i (L .places) ++ place ∷ [] =
     rw add-one (take-suc-set (L .places) i place room) in (
       omega arith,
       length-set (L .places) i place ∙ L .inv .1,
@@ -103,7 +103,7 @@ returns c =
     let long = names-length s items count size in
     let L = c .before .loop in
     let i = L .i in
-    let ms = namesIn s (d .args .t) in
+    let ms = namesIn s (d .args .t .now) (d .args .set) in
     let all : count ≡ i = omega arith in
     record {
       unknown = any-done (nameIn s nowhere) ns i (missing ms) (L .unknown) (L .inv .2) (omega arith);

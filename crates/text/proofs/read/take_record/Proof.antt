@@ -1,15 +1,17 @@
 -- The record before its stage, then the stage. Assumes nothing.
-use Rattle.text.specs.Taken.{takes, outcomeIn}
-use Rattle.text.specs.Known.{stateIn}
 use Rattle.grammar.specs.Line.{piecesIn}
-use Rattle.text.specs.Read.{unless}
 use Rattle.grammar.specs.Record.{recordFor}
+use Rattle.text.specs.declared.known.Known.{Known}
 use Rattle.text.specs.Grown.{atStage}
-use Rattle.text.specs.Order.{mayStand, stageAfter}
-use Rattle.text.proofs.Laws.Stages.{stands-le}
+use Rattle.text.specs.Known.{kept, stateIn, Sound, after}
+use Rattle.text.specs.Order.{mayStand, stageAfter, inMasked}
+use Rattle.text.specs.Read.{unless}
+use Rattle.text.specs.Taken.{takes, outcomeIn}
+use Rattle.text.proofs.Laws.Known.{steady}
+use Rattle.text.proofs.Laws.Stages.{stands-le, after-lt}
 use Rattle.text.proofs.Laws.Leading.{record-stops, record-goes}
-use Prim.Native.Nat.{ℕ}
-use mathlib.Core.Path.{ap, sym, _∙_}
+use Prim.Native.Nat.{ℕ, _<_}
+use mathlib.Core.Path.{ap, sym, _∙_, subst}
 use borrow.Author.Needs.{needs}
 use Rattle.text.proofs.read.take_record.Statement.{statement}
 use Rattle.text.proofs.read.take_record.Tie as tie
@@ -28,54 +30,64 @@ take-any-requires c κs =
 returns : tie.Need-returns
 unfolding outcomeIn stateIn
 returns c =
+    let b3 = c .before .before .before in
+    let b4 = c .before .before .before .before in
     let d = c .before .before .before .before .before .before in
     let s = d .args .s .now in
-    let st = stateIn s (d .args .k) in
+    let t = d .args .t .now in
     let T = c .before .before .take-any in
     let o = recordFor (d .args .w) (piecesIn s (d .args .l)) in
-    let q = T .ensures .outcome ∙ (λ i. takes st (d .args .n) (c .before .before .before .may-stand .ensures i)
-    (c .before .before .before .before .«record» .ensures i)) in
     record {
-      outcome = record-stops st (d .args .n) (d .args .w) o (T .result .refusal) (stateIn s (T .result .known))
-          (c .if1 .taken) q;
+      outcome = λ a z.
+          let h = kept t (d .args .k) a in
+          record-stops (stateIn s h) (d .args .n) (d .args .w) o (T .result .refusal) (stateIn s (after h (T .result)))
+          (c .if1 .taken)
+          (T .ensures .outcome a z
+          ∙ (λ i. takes (stateIn s h) (d .args .n) (b3 .may-stand .ensures i) (b4 .«record» .ensures i)));
       sound = T .ensures .sound;
+      fits = T .ensures .fits;
     }
 
 staged-requires : tie.Need-staged-requires
-unfolding outcomeIn stateIn
-staged-requires c κs =
-    let d = c .before .before .before .before .before .before .before in
-    let s = d .args .s .now in
-    let st = stateIn s (d .args .k) in
-    let T = c .before .before .before .take-any in
-    let o = recordFor (d .args .w) (piecesIn s (d .args .l)) in
-    let q = ap (λ (e : ℕ). unless e (stateIn s (T .result .known))) (sym (c .before .if1 .left)) ∙ T .ensures .outcome
-    ∙ (λ i. takes st (d .args .n) (c .before .before .before .before .may-stand .ensures i)
-    (c .before .before .before .before .before .«record» .ensures i)) in (
-      T .ensures .sound,
-      ap (mayStand (d .args .w)) (T .ensures .stage)
-          ∙ record-goes st (d .args .n) (d .args .w) o (stateIn s (T .result .known)) q .0,
-    )
+staged-requires c κs = search needs
 
 returns-2 : tie.Need-returns-2
-unfolding outcomeIn stateIn
+unfolding outcomeIn stateIn after atStage
 returns-2 c =
-    let d = c .before .before .before .before .before .before .before .before in
+    let b3 = c .before .before .before in
+    let b6 = c .before .before .before .before .before .before in
+    let b7 = c .before .before .before .before .before .before .before in
+    let d = c .before .before .before .before .before .before .before .before .before in
     let s = d .args .s .now in
-    let st = stateIn s (d .args .k) in
-    let T = c .before .before .before .before .take-any in
-    let o = recordFor (d .args .w) (piecesIn s (d .args .l)) in
-    let q = ap (λ (e : ℕ). unless e (stateIn s (T .result .known))) (sym (c .before .before .if1 .left))
-    ∙ T .ensures .outcome ∙ (λ i. takes st (d .args .n)
-    (c .before .before .before .before .before .may-stand .ensures i)
-    (c .before .before .before .before .before .before .«record» .ensures i)) in
-    let M = c .staged .ensures in
+    let t = d .args .t .now in
+    let w = d .args .w in
+    let T = c .before .before .before .before .before .take-any in
+    let j = T .result .known in
+    let o = recordFor w (piecesIn s (d .args .l)) in
+    let stands = sym (b6 .may-stand .ensures) ∙ T .ensures .stood (b3 .if1 .left) in
+    let g = stageAfter w (j .stage) in
+    let lower : g < inMasked → j .stage < inMasked =
+    after-lt w (j .stage) (ap (mayStand w) (T .ensures .stage) ∙ stands) in
+    let e = c .before .staged .ensures in
     record {
-      outcome =
-          ap (unless 0) (M .meaning s ∙ ap (λ (g : ℕ).
-          atStage (stageAfter (d .args .w) g) (stateIn s (T .result .known))) (T .ensures .stage))
-          ∙ record-goes st (d .args .n) (d .args .w) o (stateIn s (T .result .known)) q .1;
-      sound = M .sound;
+      outcome = λ a z.
+          let h = kept t (d .args .k) a in
+          let q = ap (λ (f : ℕ). unless f (stateIn s (after h (T .result)))) (sym (b3 .if1 .left))
+          ∙ T .ensures .outcome a z
+          ∙ (λ i. takes (stateIn s h) (d .args .n) (b6 .may-stand .ensures i) (b7 .«record» .ensures i)) in
+          ap (λ (k : Known). unless 0 (stateIn s (after h (record {
+            refusal = 0;
+            known = k;
+            put = T .result .put;
+            map = T .result .map;
+          })))) e
+          ∙ ap (λ (f : ℕ). unless 0 (atStage (stageAfter w f) (stateIn s (after h (T .result))))) (T .ensures .stage)
+          ∙ record-goes (stateIn s h) (d .args .n) w o (stateIn s (after h (T .result))) q .1;
+      sound = subst Sound (sym e)
+          (steady j (T .ensures .sound) g (j .shares) (j .mapped) (j .result) (j .outputs) (j .named)
+          (T .ensures .sound .shares) (T .ensures .sound .mapped) (T .ensures .sound .named)
+          (λ l. T .ensures .sound .apart (lower l)));
+      fits = T .ensures .fits;
     }
 
 pub take-record-spec : {M : Type 1} → statement M

@@ -20,7 +20,7 @@ returns : tie.Need-returns
 returns c = λ v.
     let x = c .before .before .before in
     let a = x .before .before .args in
-    app-found (a .s .now) (a .t) (a .maps) v (a .g) (a .a) (c .before .both .ensures) (c .one-of .ensures)
+    app-found (a .s .now) (a .t .now) (a .set) (a .maps) v (a .g) (a .a) (c .before .both .ensures) (c .one-of .ensures)
     (x .find-map .ensures) (c .before .before .find-term .ensures)
 
 pub find-app-spec : {M : Type 1} → statement M

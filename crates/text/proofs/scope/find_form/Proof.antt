@@ -1,5 +1,5 @@
 -- Each case from what is found for its operands. Assumes nothing.
-use Rattle.text.proofs.Laws.Finding.{set-found, two-found, form-known, rand-found}
+use Rattle.text.proofs.Laws.Finding.{set-found, form-known, rand-found}
 use borrow.Author.Needs.{needs}
 use Rattle.text.proofs.scope.find_form.Statement.{statement}
 use Rattle.text.proofs.scope.find_form.Tie as tie
@@ -13,11 +13,8 @@ find-term-requires c κs = search needs
 enum-known-f-2 : tie.Need-enum-known-f-2
 enum-known-f-2 c = search needs
 
-find-two-requires : tie.Need-find-two-requires
-find-two-requires c κs = search needs
-
-join-requires : tie.Need-join-requires
-join-requires c κs = search needs
+find-pair-requires : tie.Need-find-pair-requires
+find-pair-requires c κs = search needs
 
 enum-known-f-3 : tie.Need-enum-known-f-3
 enum-known-f-3 c = search needs
@@ -31,25 +28,25 @@ enum-told c = search needs
 returns : tie.Need-returns
 returns c =
     let a = c .before .before .before .before .before .args in
-    set-found (a .s .now) (a .t) (a .maps) (a .v) _ (c .before .before .f .given .1) (c .find-term .ensures)
+    let f = c .before .before .f .given .1 in
+    set-found (a .s .now) (a .t .now) (a .set) (a .maps) (a .v) _ f (c .find-term .ensures)
 
 returns-2 : tie.Need-returns-2
 returns-2 c =
-    let d = c .before .before .before in
-    let a = d .before .before .before .args in
-    two-found (a .s .now) (a .t) (a .maps) (a .v) _ _ _ (d .f2 .given .1) (c .before .find-two .ensures)
-    (c .join .ensures)
+    let a = c .before .before .before .before .before .args in
+    form-known (a .s .now) (a .t .now) (a .set) (a .maps) (a .v) (c .before .before .f2 .given .1)
+    (c .find-pair .ensures (a .maps) (a .v))
 
 returns-3 : tie.Need-returns-3
 returns-3 c =
-    let d = c .before .before in
-    let a = d .before .before .before .args in
-    form-known (a .s .now) (a .t) (a .maps) (a .v) (d .f3 .given .1) (c .find-app .ensures (a .v))
+    let b2 = c .before .before in
+    let a = c .before .before .before .before .before .args in
+    form-known (a .s .now) (a .t .now) (a .set) (a .maps) (a .v) (b2 .f3 .given .1) (c .find-app .ensures (a .v))
 
 returns-4 : tie.Need-returns-4
 returns-4 c =
     let a = c .before .before .before .args in
-    rand-found (a .s .now) (a .t) (a .maps) (a .v) (c .enum-told .given .1)
+    rand-found (a .s .now) (a .t .now) (a .set) (a .maps) (a .v) (c .enum-told .given .1)
 
 pub find-form-spec : {M : Type 1} → statement M
 find-form-spec =
@@ -58,8 +55,7 @@ find-form-spec =
     enum-known-f
     find-term-requires
     enum-known-f-2
-    find-two-requires
-    join-requires
+    find-pair-requires
     enum-known-f-3
     find-app-requires
     enum-told

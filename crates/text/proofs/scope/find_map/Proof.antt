@@ -20,7 +20,7 @@ returns c = map-name _ _ _ (c .before .before .f .given .1) (c .find-name .ensur
 returns-2 : tie.Need-returns-2
 returns-2 c =
     let a = c .before .before .before .args in
-    map-bad (a .s .now) (namesIn (a .s .now) (a .t)) (c .enum-told .given .1)
+    map-bad (a .s .now) (namesIn (a .s .now) (a .t .now) (a .set)) (c .enum-told .given .1)
 
 pub find-map-spec : {M : Type 1} → statement M
 find-map-spec =

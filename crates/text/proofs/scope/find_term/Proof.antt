@@ -23,12 +23,12 @@ returns c = term-name _ _ _ (c .before .before .a .given .1) (c .find-name .ensu
 returns-2 : tie.Need-returns-2
 returns-2 c =
     let a = c .before .before .before .before .args in
-    term-byte (a .s .now) (namesIn (a .s .now) (a .t)) _ (c .before .a2 .given .1)
+    term-byte (a .s .now) (namesIn (a .s .now) (a .t .now) (a .set)) _ (c .before .a2 .given .1)
 
 returns-3 : tie.Need-returns-3
 returns-3 c =
     let a = c .before .before .before .args in
-    term-bad (a .s .now) (namesIn (a .s .now) (a .t)) (c .enum-told .given .1)
+    term-bad (a .s .now) (namesIn (a .s .now) (a .t .now) (a .set)) (c .enum-told .given .1)
 
 pub find-term-spec : {M : Type 1} → statement M
 find-term-spec =

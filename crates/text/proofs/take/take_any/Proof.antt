@@ -18,12 +18,16 @@ use Rattle.text.proofs.take.take_any.Statement.{statement}
 use Rattle.text.proofs.take.take_any.Tie as tie
 
 -- the record is known
-known : (s : List ℕ) (ps : List (List ℕ)) (k : Known) (n : ℕ) (stands : Bool) {r q : Rec} {x : Step} → r ≡ q
-    → Took s k n stands (recordIn s ps q) x → Took s k n stands (recordIn s ps r) x
-known s ps k n stands {x = x} e t = subst (λ (o : Option Record). Took s k n stands o x) (ap (recordIn s ps) (sym e)) t
+known : (s t : List ℕ) (ps : List (List ℕ)) (k : Known) (n : ℕ) (stands : Bool) {r q : Rec} {x : Step} → r ≡ q
+    → Took s t k n stands (recordIn s ps q) x → Took s t k n stands (recordIn s ps r) x
+known s t ps k n stands {x = x} e T =
+    subst (λ (o : Option Record). Took s t k n stands o x) (ap (recordIn s ps) (sym e)) T
 
 enum-told : tie.Need-enum-told
 enum-told c = search needs
+
+make-requires : tie.Need-make-requires
+make-requires c κs = search needs
 
 enum-known-r : tie.Need-enum-known-r
 enum-known-r c = search needs
@@ -76,10 +80,10 @@ take-output-requires c κs = search needs
 returns : tie.Need-returns
 unfolding recordIn
 returns c =
-    let d = c .before .before .before in
+    let d = c .before .before .before .before in
     let s = d .args .s .now in
-    took-bad s (d .args .k) (d .pre .1) (d .args .n) (d .args .stands)
-    (ap (recordIn s (piecesIn s (d .args .l))) (sym (c .enum-told .given .1)))
+    took-bad s (d .args .t .now) (d .args .k) (d .pre .1) (d .args .n) (d .args .stands)
+    (ap (recordIn s (piecesIn s (d .args .l))) (sym (c .before .enum-told .given .1))) (c .make .ensures)
 
 returns-2 : tie.Need-returns-2
 unfolding recordIn
@@ -87,8 +91,8 @@ returns-2 c =
     let d = c .before .before .before .before .before in
     let s = d .args .s .now in
     let ps = piecesIn s (d .args .l) in
-    known s ps (d .args .k) (d .args .n) (d .args .stands) (c .before .before .r .given .1)
-    (c .take-shares .ensures s ps (d .args .n))
+    known s (d .args .t .now) ps (d .args .k) (d .args .n) (d .args .stands) (c .before .before .r .given .1)
+    (c .take-shares .ensures s (d .args .t .now) ps (d .args .n))
 
 returns-3 : tie.Need-returns-3
 unfolding recordIn
@@ -96,7 +100,7 @@ returns-3 c =
     let d = c .before .before .before .before .before in
     let s = d .args .s .now in
     let ps = piecesIn s (d .args .l) in
-    known s ps (d .args .k) (d .args .n) (d .args .stands) (c .before .before .r2 .given .1)
+    known s (d .args .t .now) ps (d .args .k) (d .args .n) (d .args .stands) (c .before .before .r2 .given .1)
     (c .take-map .ensures (d .args .n))
 
 returns-4 : tie.Need-returns-4
@@ -105,7 +109,7 @@ returns-4 c =
     let d = c .before .before .before .before .before in
     let s = d .args .s .now in
     let ps = piecesIn s (d .args .l) in
-    known s ps (d .args .k) (d .args .n) (d .args .stands) (c .before .before .r3 .given .1)
+    known s (d .args .t .now) ps (d .args .k) (d .args .n) (d .args .stands) (c .before .before .r3 .given .1)
     (c .take-input .ensures ps (d .args .n))
 
 returns-5 : tie.Need-returns-5
@@ -114,8 +118,8 @@ returns-5 c =
     let d = c .before .before .before .before in
     let s = d .args .s .now in
     let ps = piecesIn s (d .args .l) in
-    known s ps (d .args .k) (d .args .n) (d .args .stands) (c .before .enum-told2 .given .1)
-    (c .take-mark .ensures s .0 ps (d .args .n))
+    known s (d .args .t .now) ps (d .args .k) (d .args .n) (d .args .stands) (c .before .enum-told2 .given .1)
+    (c .take-mark .ensures s (d .args .t .now) .0 ps (d .args .n))
 
 returns-6 : tie.Need-returns-6
 unfolding recordIn
@@ -123,7 +127,7 @@ returns-6 c =
     let d = c .before .before .before .before .before in
     let s = d .args .s .now in
     let ps = piecesIn s (d .args .l) in
-    known s ps (d .args .k) (d .args .n) (d .args .stands) (c .before .before .r4 .given .1)
+    known s (d .args .t .now) ps (d .args .k) (d .args .n) (d .args .stands) (c .before .before .r4 .given .1)
     (c .take-statement .ensures ps)
 
 returns-7 : tie.Need-returns-7
@@ -132,7 +136,7 @@ returns-7 c =
     let d = c .before .before .before .before .before in
     let s = d .args .s .now in
     let ps = piecesIn s (d .args .l) in
-    known s ps (d .args .k) (d .args .n) (d .args .stands) (c .before .before .r5 .given .1)
+    known s (d .args .t .now) ps (d .args .k) (d .args .n) (d .args .stands) (c .before .before .r5 .given .1)
     (c .take-result .ensures ps (d .args .n))
 
 returns-8 : tie.Need-returns-8
@@ -141,8 +145,8 @@ returns-8 c =
     let d = c .before .before .before .before in
     let s = d .args .s .now in
     let ps = piecesIn s (d .args .l) in
-    known s ps (d .args .k) (d .args .n) (d .args .stands) (c .before .enum-told3 .given .1)
-    (c .take-mark2 .ensures s .1 ps (d .args .n))
+    known s (d .args .t .now) ps (d .args .k) (d .args .n) (d .args .stands) (c .before .enum-told3 .given .1)
+    (c .take-mark2 .ensures s (d .args .t .now) .1 ps (d .args .n))
 
 returns-9 : tie.Need-returns-9
 unfolding recordIn
@@ -150,7 +154,7 @@ returns-9 c =
     let d = c .before .before .before .before in
     let s = d .args .s .now in
     let ps = piecesIn s (d .args .l) in
-    known s ps (d .args .k) (d .args .n) (d .args .stands) (c .before .enum-told4 .given .1)
+    known s (d .args .t .now) ps (d .args .k) (d .args .n) (d .args .stands) (c .before .enum-told4 .given .1)
     (c .take-output .ensures (d .args .n))
 
 pub take-any-spec : {M : Type 1} → statement M
@@ -158,6 +162,7 @@ take-any-spec =
     tie.close
     (tie.spec
     enum-told
+    make-requires
     enum-known-r
     take-shares-requires
     enum-known-r-2

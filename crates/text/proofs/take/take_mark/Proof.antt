@@ -2,8 +2,7 @@
 use Rattle.grammar.specs.Record.{origin, masked}
 use Rattle.grammar.specs.Recorded.{recordIn}
 use Rattle.text.specs.Scope.{repeats, readsUnknown, exceeds, miscounts, added}
-use Rattle.text.specs.Known.{stateIn}
-use Rattle.text.proofs.Laws.Taking.{fault-told, took-grown}
+use Rattle.text.proofs.Laws.Taking.{took-set}
 use mathlib.Core.Path.{refl}
 use borrow.Author.Needs.{needs}
 use Rattle.text.proofs.take.take_mark.Statement.{statement}
@@ -12,21 +11,29 @@ use Rattle.text.proofs.take.take_mark.Tie as tie
 first-fault-requires : tie.Need-first-fault-requires
 first-fault-requires c κs = search needs
 
+make-requires : tie.Need-make-requires
+make-requires c κs = search needs
+
 returns : tie.Need-returns
 unfolding recordIn repeats readsUnknown exceeds miscounts added
-returns c = λ s.
-    let a = c .before .args in
-    let k = a .k in
-    let st = stateIn s k in
-    let K = c .before .pre in
-    let q = c .first-fault .ensures in (
+returns c = λ s t.
+    let a = c .before .before .args in
+    let K = c .before .before .pre in
+    let q = c .before .first-fault .ensures in (
       λ ps n.
-          took-grown s k K n (a .stands) origin refl
-          (fault-told st (a .stands) origin q refl refl refl refl) k refl K refl,
+          took-set s t (a .k) K n (a .stands) origin refl q (a .k) refl K
+          (λ x z. record { repeats = refl; unknown = refl; exceeds = refl; miscounts = refl }) (λ x. refl)
+          (c .make .ensures),
       λ ps n.
-          took-grown s k K n (a .stands) masked refl
-          (fault-told st (a .stands) masked q refl refl refl refl) k refl K refl,
+          took-set s t (a .k) K n (a .stands) masked refl q (a .k) refl K
+          (λ x z. record { repeats = refl; unknown = refl; exceeds = refl; miscounts = refl }) (λ x. refl)
+          (c .make .ensures),
     )
 
 pub take-mark-spec : {M : Type 1} → statement M
-take-mark-spec = tie.close (tie.spec first-fault-requires returns)
+take-mark-spec =
+    tie.close
+    (tie.spec
+    first-fault-requires
+    make-requires
+    returns)

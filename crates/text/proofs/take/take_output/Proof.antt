@@ -2,16 +2,16 @@
 use mathlib.Core.Option.{Option, none, some}
 use mathlib.Core.Bool.{not}
 use lib.Dec.{eqb}
-use Rattle.text.proofs.Laws.Named.{names-length}
-use Rattle.text.specs.Grown.{withOutputs}
-use Rattle.grammar.specs.Recorded.{namesOf, namesRead}
+use Rattle.grammar.specs.Recorded.{namesOf, namesRead, recordIn}
 use Rattle.tokens.specs.Token.{Name, _>>=_}
 use Rattle.grammar.specs.Line.{piecesIn}
 use Rattle.grammar.specs.Record.{output}
-use Rattle.grammar.specs.Recorded.{recordIn}
+use Rattle.text.specs.Grown.{withOutputs}
 use Rattle.text.specs.Scope.{repeats, readsUnknown, exceeds, miscounts, added}
-use Rattle.text.specs.Known.{stateIn}
-use Rattle.text.proofs.Laws.Taking.{fault-told, took-bad, took-grown}
+use Rattle.text.specs.Known.{kept, stateIn}
+use Rattle.text.proofs.Laws.Known.{steady}
+use Rattle.text.proofs.Laws.Named.{names-length}
+use Rattle.text.proofs.Laws.Taking.{took-bad, took-set}
 use native.Mathlib.Omega.{arith}
 use Prim.Native.Nat.{ℕ, _≤_}
 use mathlib.Core.Path.{_≡_, refl, ap, sym, _∙_}
@@ -33,41 +33,50 @@ find-outputs-requires c κs = search needs
 first-fault-requires : tie.Need-first-fault-requires
 first-fault-requires c κs = search needs
 
-with-outputs-requires : tie.Need-with-outputs-requires
-with-outputs-requires c κs = search needs
+make-requires : tie.Need-make-requires
+make-requires c κs = search needs
 
 returns : tie.Need-returns
-unfolding recordIn repeats readsUnknown exceeds miscounts added stateIn namesRead
+unfolding recordIn repeats readsUnknown exceeds miscounts added stateIn namesRead withOutputs
 returns c = λ n.
-    let d = c .before .before .before .before .before .before .before .before .before .before in
+    let d = c .before .before .before .before .before .before .before .before .before in
     let k = d .args .k in
+    let K = d .pre .1 in
     let s = d .args .s .now in
-    let R = c .before .before .before .before .before .before .before .before .read-outputs in
+    let t = d .args .t .now in
+    let R = c .before .before .before .before .before .before .before .read-outputs in
     let ns : List Name = namesRead s (R .result) in
     let here : some ns ≡ namesOf (piecesIn s (d .args .l)) =
-    sym (simp (c .before .before .before .before .before .before .before .if1 .taken)) ∙ R .ensures .names in
+    sym (simp (c .before .before .before .before .before .before .if1 .taken)) ∙ R .ensures .names in
     let size : R .result .count ≤ length (R .result .items) =
     omega (arith, R .ensures .listed .few, R .ensures .listed .size) in
     let long = names-length s (R .result .items) (R .result .count) size in
-    let found = c .before .before .before .before .before .find-outputs .ensures in
-    let E = c .with-outputs .ensures in
-    took-grown s k (d .pre .1) n (d .args .stands) (output ns)
+    let found = c .before .before .before .before .find-outputs .ensures in
+    took-set s t k K n (d .args .stands) (output ns)
     (ap (λ (o : Option (List Name)). o >>= λ xs. some (output xs)) here)
-    (fault-told (stateIn s k) (d .args .stands) (output ns) (c .before .before .first-fault .ensures)
-    (c .before .before .before .before .before .before .is-repeated .ensures) (found .unknown) refl
-    (ap (λ (i : ℕ). not (eqb i (k .routine .shares))) (sym long)))
-    (c .with-outputs .result) (E .0) (E .1 .sound) (E .1 .meaning s
-    ∙ ap (λ (l : List ℕ). withOutputs l (stateIn s k)) (found .places))
+    (c .before .before .first-fault .ensures) _ refl
+    (steady k K (k .stage) (k .shares) (k .mapped) (k .result) _ (R .result .count) (K .shares) (K .mapped)
+    (R .ensures .listed .few) (K .apart))
+    (λ y z. record {
+      repeats = c .before .before .before .before .before .is-repeated .ensures;
+      unknown = found .unknown;
+      exceeds = refl;
+      miscounts = ap (λ (i : ℕ). not (eqb i (k .shares))) (sym long);
+    })
+    (λ y. ap (λ (l : List ℕ). withOutputs l (stateIn s (kept t k y))) (found .places)) (c .make .ensures)
+
+make-requires-2 : tie.Need-make-requires-2
+make-requires-2 c κs = search needs
 
 returns-2 : tie.Need-returns-2
 unfolding recordIn
 returns-2 c = λ n.
-    let d = c .before .before .before in
+    let d = c .before .before .before .before in
     let s = d .args .s .now in
-    let here : none ≡ namesOf (piecesIn s (d .args .l)) = sym (simp (c .if1 .left))
-    ∙ c .before .read-outputs .ensures .names in
-    took-bad s (d .args .k) (d .pre .1) n (d .args .stands)
-    (ap (λ (o : Option (List Name)). o >>= λ xs. some (output xs)) here)
+    let here : none ≡ namesOf (piecesIn s (d .args .l)) = sym (simp (c .before .if1 .left))
+    ∙ c .before .before .read-outputs .ensures .names in
+    took-bad s (d .args .t .now) (d .args .k) (d .pre .1) n (d .args .stands)
+    (ap (λ (o : Option (List Name)). o >>= λ xs. some (output xs)) here) (c .make2 .ensures)
 
 pub take-output-spec : {M : Type 1} → statement M
 take-output-spec =
@@ -77,6 +86,7 @@ take-output-spec =
     is-repeated-requires
     find-outputs-requires
     first-fault-requires
-    with-outputs-requires
+    make-requires
     returns
+    make-requires-2
     returns-2)

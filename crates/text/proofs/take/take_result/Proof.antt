@@ -1,16 +1,17 @@
 -- The name is looked up. Assumes nothing.
-use Rattle.text.specs.Grown.{withResult}
 use Rattle.grammar.specs.declared.record.Rec.the-variants as rec
 use Rattle.grammar.specs.declared.line.NameRead.{NameRead}
 use Rattle.grammar.specs.Line.{nameIn}
-use Rattle.text.specs.Found.{nameFound}
-use Rattle.text.specs.declared.scope.NameFound.{NameFound}
 use Rattle.grammar.specs.Record.{result}
 use Rattle.grammar.specs.Recorded.{recordIn}
+use Rattle.text.specs.declared.scope.NameFound.{NameFound}
+use Rattle.text.specs.Found.{nameFound}
+use Rattle.text.specs.Grown.{withResult}
 use Rattle.text.specs.Scope.{repeats, readsUnknown, exceeds, miscounts, added}
-use Rattle.text.specs.Known.{stateIn}
-use Rattle.text.proofs.Laws.Taking.{fault-told, took-bad, took-grown}
-use mathlib.Core.Path.{refl, ap, sym, _∙_}
+use Rattle.text.specs.Known.{kept, stateIn}
+use Rattle.text.proofs.Laws.Known.{steady}
+use Rattle.text.proofs.Laws.Taking.{took-bad, took-set}
+use mathlib.Core.Path.{refl, ap, sym}
 use borrow.Author.Needs.{needs}
 use Rattle.text.proofs.take.take_result.Statement.{statement}
 use Rattle.text.proofs.take.take_result.Tie as tie
@@ -24,36 +25,46 @@ find-name-requires c κs = search needs
 first-fault-requires : tie.Need-first-fault-requires
 first-fault-requires c κs = search needs
 
-with-result-requires : tie.Need-with-result-requires
-with-result-requires c κs = search needs
+make-requires : tie.Need-make-requires
+make-requires c κs = search needs
 
 enum-told : tie.Need-enum-told
 enum-told c = search needs
 
+make-requires-2 : tie.Need-make-requires-2
+make-requires-2 c κs = search needs
+
 returns : tie.Need-returns
-unfolding recordIn repeats readsUnknown exceeds miscounts added stateIn nameFound
+unfolding recordIn repeats readsUnknown exceeds miscounts added stateIn nameFound withResult
 returns c = λ ps n.
     let d = c .before .before .before .before .before .before .before in
     let k = d .args .k in
+    let K = d .pre in
     let s = d .args .s .now in
+    let t = d .args .t .now in
     let x = c .before .before .before .before .x in
-    let f = result (nameIn s (x .given .0 .0)) in
     let found = c .before .before .find-name .ensures in
-    let E = c .with-result .ensures in
-    took-grown s k (d .pre) n (d .args .stands) f
+    let place = c .before .before .find-name .result .place in
+    took-set s t k K n (d .args .stands) (result (nameIn s (x .given .0 .0)))
     (ap (λ (y : NameRead). recordIn s ps (rec.Result y)) (sym (x .given .1)))
-    (fault-told (stateIn s k) (d .args .stands) f (c .before .first-fault .ensures) refl
-    (ap (λ (y : NameFound). y .unknown) found) refl refl)
-    (c .with-result .result) (E .0) (E .1 .sound)
-    (E .1 .meaning s ∙ ap (λ (y : NameFound). withResult (y .place) (stateIn s k)) found)
+    (c .before .first-fault .ensures) _ refl
+    (steady k K (k .stage) (k .shares) (k .mapped) place (k .outputs) (k .named) (K .shares) (K .mapped) (K .named)
+    (K .apart))
+    (λ y z. record {
+      repeats = refl;
+      unknown = ap (λ (q : NameFound). q .unknown) found;
+      exceeds = refl;
+      miscounts = refl;
+    })
+    (λ y. ap (λ (q : NameFound). withResult (q .place) (stateIn s (kept t k y))) found) (c .make .ensures)
 
 returns-2 : tie.Need-returns-2
 unfolding recordIn
 returns-2 c = λ ps n.
-    let d = c .before .before .before in
+    let d = c .before .before .before .before in
     let s = d .args .s .now in
-    took-bad s (d .args .k) (d .pre) n (d .args .stands)
-    (ap (λ (x : NameRead). recordIn s ps (rec.Result x)) (sym (c .enum-told .given .1)))
+    took-bad s (d .args .t .now) (d .args .k) (d .pre) n (d .args .stands)
+    (ap (λ (x : NameRead). recordIn s ps (rec.Result x)) (sym (c .before .enum-told .given .1))) (c .make2 .ensures)
 
 pub take-result-spec : {M : Type 1} → statement M
 take-result-spec =
@@ -62,7 +73,8 @@ take-result-spec =
     enum-known-x
     find-name-requires
     first-fault-requires
-    with-result-requires
+    make-requires
     enum-told
+    make-requires-2
     returns
     returns-2)

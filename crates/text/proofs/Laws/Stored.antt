@@ -1,0 +1,114 @@
+-- What the loop stores is what a step says is held behind it, and the sizes stay. Assumes nothing.
+use Prim.Native.Nat.{ℕ, _+_, _<_}
+use mathlib.Core.Path.{_≡_, refl, _∙_, ap}
+use mathlib.Core.Bool.{Bool, cond}
+use mathlib.Core.List.{List}
+use lib.Dec.{ltb}
+use lib.ListN.{length, getD, set, length-set}
+use lib.Seq.{set-getD}
+use borrow.Author.Tests.{lt-ltb}
+use Rattle.text.specs.declared.types.Statement.{Statement}
+use Rattle.text.specs.declared.types.AffineMap.{AffineMap}
+use Rattle.text.specs.declared.known.Known.{Known}
+use Rattle.text.specs.declared.step.Put.{Put}
+use Rattle.text.specs.declared.step.Put.the-variants.{Nothing, Map, Input, Stated}
+use Rattle.text.specs.declared.step.Step.{Step}
+use Rattle.text.specs.declared.routine.Routine.{Routine}
+use Rattle.text.specs.State.{start}
+use Rattle.text.specs.Names.{listed, namesIn}
+use Rattle.text.specs.Routine.{nothing}
+use Rattle.text.specs.Limits.{mostMaps, mostStatements, mostNumbers}
+use Rattle.text.specs.Known.{Arrays, arrays, Kept, kept, Sized, Fits, statementSlot, mapSlot, statementAfter}
+use Rattle.text.specs.Known.{mapAfter, tableAfter, arraysAfter, after, stateIn, blank}
+use Rattle.text.proofs.Laws.Kept.{table-length}
+
+-- a place with room is the next
+slot : (n m : ℕ) → n < m → cond (ltb n m) n 0 ≡ n
+slot n m h = ap (λ (b : Bool). cond b n 0) (lt-ltb n m h)
+
+module _ (a : Arrays) (k : Known) (g : AffineMap) (i j : ℕ) (d : Statement) (e : AffineMap) where
+  -- the arrays behind the two stores
+  stored : Put → Arrays
+  stored p =
+      arrays (set (a .maps) j (mapAfter p g (getD (a .maps) j e)))
+      (set (a .statements) i (statementAfter p (getD (a .statements) i d)))
+
+  same-maps : set (a .maps) j (getD (a .maps) j e) ≡ a .maps
+  same-maps = set-getD (a .maps) j e
+
+  same-statements : set (a .statements) i (getD (a .statements) i d) ≡ a .statements
+  same-statements = set-getD (a .statements) i d
+
+  -- they are those that the record leads to
+  stores : (p : Put) → Fits k p → i ≡ statementSlot k → j ≡ mapSlot k → stored p ≡ arraysAfter a k p g
+  unfolding stored
+  stores Nothing f u v = λ n. arrays (same-maps n) (same-statements n)
+  stores (Map x) f u v =
+      let at = v ∙ slot (k .mapped) mostMaps f in
+      λ n. arrays (set (a .maps) (at n) g) (same-statements n)
+  stores (Input x) f u v = λ n. arrays (same-maps n) (same-statements n)
+  stores (Stated x st) f u v =
+      let at = u ∙ slot (k .origin + k .masked) mostStatements f in
+      λ n. arrays (same-maps n) (set (a .statements) (at n) st)
+
+module _ (h : Kept) (r : Step) where
+  -- the loop's stores lead to what the step says
+  pub kept-after : Fits (h .known) (r .put) → (i j : ℕ) (d : Statement) (e : AffineMap) {t : List ℕ} {st : Statement}
+      {f : AffineMap} → i ≡ statementSlot (h .known) → j ≡ mapSlot (h .known)
+      → st ≡ statementAfter (r .put) (getD (h .arrays .statements) i d)
+      → f ≡ mapAfter (r .put) (r .map) (getD (h .arrays .maps) j e)
+      → t ≡ tableAfter (h .names) (h .known) (r .put)
+      → kept t (r .known) (arrays (set (h .arrays .maps) j f) (set (h .arrays .statements) i st)) ≡ after h r
+  unfolding after stored
+  kept-after F i j d e u v p q w =
+      (λ n. kept (w n) (r .known)
+      (arrays (set (h .arrays .maps) j (q n)) (set (h .arrays .statements) i (p n))))
+      ∙ ap (kept (tableAfter (h .names) (h .known) (r .put)) (r .known))
+      (stores (h .arrays) (h .known) (r .map) i j d e (r .put) F u v)
+
+  maps-size : (p : Put) → length (arraysAfter (h .arrays) (h .known) p (r .map) .maps) ≡ length (h .arrays .maps)
+  maps-size Nothing = refl
+  maps-size (Map x) = length-set (h .arrays .maps) (h .known .mapped) (r .map)
+  maps-size (Input x) = refl
+  maps-size (Stated x st) = refl
+
+  statements-size : (p : Put)
+      → length (arraysAfter (h .arrays) (h .known) p (r .map) .statements) ≡ length (h .arrays .statements)
+  statements-size Nothing = refl
+  statements-size (Map x) = refl
+  statements-size (Input x) = refl
+  statements-size (Stated x st) = length-set (h .arrays .statements) (h .known .origin + h .known .masked) st
+
+  -- the sizes stay
+  pub sized-after : Sized h → Sized (after h r)
+  unfolding after
+  sized-after Z =
+      record {
+        names = table-length (h .names) (h .known) (r .put) ∙ Z .names;
+        maps = maps-size (r .put) ∙ Z .maps;
+        statements = statements-size (r .put) ∙ Z .statements;
+      }
+
+-- ---- before the first line
+
+module _ (t : List ℕ) (k : Known) (q : Routine) where
+  -- the sizes of what the loop begins with
+  pub blank-sized : length t ≡ mostNumbers → q ≡ nothing → Sized (kept t k (arrays (q .maps) (q .statements)))
+  unfolding nothing
+  blank-sized l e =
+      record {
+        names = l;
+        maps = ap (λ (r : Routine). length (r .maps)) e;
+        statements = ap (λ (r : Routine). length (r .statements)) e;
+      }
+
+-- what the loop begins with stands for the start
+none-means : (s t : List ℕ) (q : Routine) → stateIn s (kept t blank (arrays (q .maps) (q .statements))) ≡ start
+unfolding stateIn blank start namesIn listed
+none-means s t q = refl
+
+-- the same, as the code makes it
+pub blank-means : (s t : List ℕ) (k : Known) (q : Routine) → k ≡ blank
+    → stateIn s (kept t k (arrays (q .maps) (q .statements))) ≡ start
+blank-means s t k q e =
+    ap (λ (j : Known). stateIn s (kept t j (arrays (q .maps) (q .statements)))) e ∙ none-means s t q

@@ -1,0 +1,107 @@
+-- In each arm what the record gives is known. Assumes nothing.
+use Rattle.text.specs.declared.step.Put.{Put}
+use Rattle.text.specs.Known.{Fits, tableAfter, InputFits}
+use Rattle.text.specs.Names.{put, putShares}
+use Rattle.text.specs.Limits.{mostStatements, maskedFrom}
+use Rattle.text.specs.Order.{inMasked}
+use Rattle.text.proofs.Laws.Known.{slot-lt}
+use Prim.Native.Nat.{ℕ, _+_, _<_}
+use native.Mathlib.Omega.{arith}
+use lib.Dec.{eqb}
+use mathlib.Core.List.{List}
+use mathlib.Core.Path.{sym, ap, _∙_, subst}
+use borrow.Author.Needs.{needs}
+use Rattle.text.proofs.names.store.Statement.{statement}
+use Rattle.text.proofs.names.store.Tie as tie
+
+enum-told : tie.Need-enum-told
+enum-told c = search needs
+
+enum-known-p : tie.Need-enum-known-p
+enum-known-p c = search needs
+
+put-requires : tie.Need-put-requires
+put-requires c κs = search needs
+
+enum-known-p-2 : tie.Need-enum-known-p-2
+enum-known-p-2 c = search needs
+
+add-put : tie.Need-add-put
+add-put c = search needs
+
+put-requires-2 : tie.Need-put-requires-2
+put-requires-2 c κs = search needs
+
+add-put-shares : tie.Need-add-put-shares
+add-put-shares c = search needs
+
+put-shares-requires : tie.Need-put-shares-requires
+put-shares-requires c κs =
+    let d = c .before .before .before .before .before .before .before .before in
+    let K = d .pre .0 in
+    let p = c .before .before .before .before .before .before .p2 .given .1 in
+    let f : InputFits (d .args .k) = subst (λ (q : Put). Fits (d .args .k) q) p (d .pre .1) in
+    (K .shares, omega (arith, K .parts, K .statements, f .1))
+
+enum-known-p-3 : tie.Need-enum-known-p-3
+enum-known-p-3 c = search needs
+
+name-slot-requires : tie.Need-name-slot-requires
+name-slot-requires c κs = search needs
+
+put-requires-3 : tie.Need-put-requires-3
+put-requires-3 c κs =
+    let d = c .before .before .before .before .before in
+    let k = d .args .k in
+    let p = c .before .before .before .p3 .given .1 in
+    let f : k .origin + k .masked < mostStatements = subst (λ (q : Put). Fits k q) p (d .pre .1) in
+    omega (arith, c .before .name-slot .ensures, slot-lt k (d .pre .0) f (eqb (k .stage) inMasked))
+
+returns : tie.Need-returns
+returns c =
+    let d = c .before .before in
+    ap (tableAfter (d .args .t .now) (d .args .k)) (sym (c .enum-told .given .1))
+
+returns-2 : tie.Need-returns-2
+returns-2 c =
+    let d = c .before .before .before .before .before in
+    c .put .ensures ∙ ap (tableAfter (d .args .t .now) (d .args .k)) (sym (c .before .before .before .p .given .1))
+
+returns-3 : tie.Need-returns-3
+returns-3 c =
+    let b3 = c .before .before .before in
+    let d = c .before .before .before .before .before .before .before .before .before in
+    let k = d .args .k in
+    let p = c .before .before .before .before .before .before .before .p2 .given in
+    c .put-shares .ensures
+    ∙ ap (λ (t : List ℕ). putShares t (maskedFrom + k .parts) (p .0 .0) (k .shares)) (b3 .put2 .ensures)
+    ∙ ap (tableAfter (d .args .t .now) k) (sym (p .1))
+
+returns-4 : tie.Need-returns-4
+returns-4 c =
+    let d = c .before .before .before .before .before .before in
+    let k = d .args .k in
+    let p = c .before .before .before .before .p3 .given in
+    c .put3 .ensures
+    ∙ ap (λ (at : ℕ). put (d .args .t .now) at (p .0 .0)) (c .before .before .name-slot .ensures)
+    ∙ ap (tableAfter (d .args .t .now) k) (sym (p .1))
+
+pub store-spec : {M : Type 1} → statement M
+store-spec =
+    tie.close
+    (tie.spec
+    enum-told
+    enum-known-p
+    put-requires
+    enum-known-p-2
+    add-put
+    put-requires-2
+    add-put-shares
+    put-shares-requires
+    enum-known-p-3
+    name-slot-requires
+    put-requires-3
+    returns
+    returns-2
+    returns-3
+    returns-4)

@@ -1,0 +1,44 @@
+-- In each arm what the record gives is known. Assumes nothing.
+use mathlib.Core.Path.{ap, sym}
+use Rattle.text.specs.declared.step.Put.{Put}
+use Rattle.text.specs.Known.{statementAfter}
+use borrow.Author.Needs.{needs}
+use Rattle.text.proofs.step.statement_after.Statement.{statement}
+use Rattle.text.proofs.step.statement_after.Tie as tie
+
+enum-told : tie.Need-enum-told
+enum-told c = search needs
+
+enum-known-p : tie.Need-enum-known-p
+enum-known-p c = search needs
+
+enum-known-p-2 : tie.Need-enum-known-p-2
+enum-known-p-2 c = search needs
+
+enum-known-p-3 : tie.Need-enum-known-p-3
+enum-known-p-3 c = search needs
+
+returns : tie.Need-returns
+returns c = ap (λ (p : Put). statementAfter p (c .before .before .args .st)) (sym (c .enum-told .given .1))
+
+returns-2 : tie.Need-returns-2
+returns-2 c = ap (λ (p : Put). statementAfter p (c .before .before .before .args .st)) (sym (c .before .p .given .1))
+
+returns-3 : tie.Need-returns-3
+returns-3 c = ap (λ (p : Put). statementAfter p (c .before .before .before .args .st)) (sym (c .before .p2 .given .1))
+
+returns-4 : tie.Need-returns-4
+returns-4 c = ap (λ (p : Put). statementAfter p (c .before .before .before .args .st)) (sym (c .before .p3 .given .1))
+
+pub statement-after-spec : {M : Type 1} → statement M
+statement-after-spec =
+    tie.close
+    (tie.spec
+    enum-told
+    enum-known-p
+    enum-known-p-2
+    enum-known-p-3
+    returns
+    returns-2
+    returns-3
+    returns-4)
