@@ -1,9 +1,11 @@
-//! The bench's own algorithm in plain Rust: values behind each other in one buffer, one term
-//! inserted at a time, bytes put in in place.
+//! The bench's own algorithm in plain Rust: values behind each other in one buffer, the rows of a
+//! product merged, other terms inserted one at a time, bytes put in in place.
 
 mod field;
 mod line;
+pub mod moves;
 mod names;
+mod product;
 mod read;
 mod routine;
 mod search;
@@ -20,8 +22,13 @@ const WORK: usize = 65_280;
 /// Bytes that the byte list needs.
 const LIST: usize = 16;
 
-/// The plain version as a side of the comparison.
-pub struct Plain;
+/// The plain version as a side of the comparison: as the bench does it, or with the terms of a
+/// product inserted one at a time, the last first.
+#[derive(Clone, Copy)]
+pub enum Plain {
+    MergedRows,
+    InsertOnly,
+}
 
 impl Side for Plain {
     fn judge(&self, text: &[u8], left: &mut [u8], right: &mut [u8], list: &mut [u8]) -> Report {
@@ -32,7 +39,7 @@ impl Side for Plain {
             Ok(routine) => routine,
             Err((number, line)) => return Report::refused(refusal(number, line)),
         };
-        let report = judge_routine(&routine, left, right, list);
+        let report = judge_routine(&routine, left, right, list, *self);
         left[..WORK].fill(0);
         right[..WORK].fill(0);
         report
@@ -77,6 +84,7 @@ fn judge_routine(
     left: &mut [u8],
     right: &mut [u8],
     list: &mut [u8],
+    way: Plain,
 ) -> Report {
     let mut report = Report {
         verdict: Verdict::Equal,
@@ -86,7 +94,7 @@ fn judge_routine(
         tried: 0,
         idle: routine.idle() as u64,
     };
-    match Values::new(routine, left, right).difference() {
+    match Values::new(routine, left, right, way).difference() {
         Err(line) => {
             report.verdict = Verdict::Unknown;
             report.line = line as u64;

@@ -7,7 +7,7 @@ use bench_tests::plain::Plain;
 /// The side that a word names: the product where its library is linked, or the plain version.
 pub fn side_of(word: &str) -> Result<Box<dyn Side>, String> {
     match word {
-        "plain" => Ok(Box::new(Plain)),
+        "plain" => Ok(Box::new(Plain::MergedRows)),
         "outside" => linked(),
         _ => Err(format!("no side is called {word}")),
     }

@@ -4,6 +4,8 @@ pub mod Normal
 pub mod Value
 pub mod Reduced
 pub mod Sum
+pub mod Insert
+pub mod Merge
 pub mod Size
 pub mod Roots
 pub mod Rows

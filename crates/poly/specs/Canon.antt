@@ -48,6 +48,10 @@ Sorted (term c e ∷ p) = Above e p × Sorted p
 abbrev pub Byte : ℕ → Type 0
 Byte c = c < 256
 
+-- a number other than zero
+abbrev pub Nonzero : ℕ → Type 0
+Nonzero c = 0 < c
+
 -- a byte other than zero
 abbrev pub NonzeroByte : ℕ → Type 0
 NonzeroByte c = (0 < c) × (c < 256)

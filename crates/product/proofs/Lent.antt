@@ -1,3 +1,9 @@
+pub mod Parts
+pub mod Merging
+pub mod Merged
 pub mod Products
+pub mod Pieces
+pub mod Sums
+pub mod Factors
 pub mod Applying
 pub mod Mapping

@@ -1,2 +1,3 @@
 pub mod Product
 pub mod Apply
+pub mod Merge

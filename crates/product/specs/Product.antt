@@ -6,7 +6,7 @@ use lib.ListN.{length, getD, drop}
 use Rattle.field.specs.Field.{times}
 use Rattle.field.specs.Laws.{gf}
 use Rattle.poly.specs.Poly.{addPows, scale, into, mulPoly}
-use Rattle.poly.specs.Canon.{Sorted}
+use Rattle.poly.specs.Canon.{Coefs, Sorted, Nonzero}
 use Rattle.buffer.specs.Buffer.{readTerms}
 use Rattle.buffer.specs.Insert.{Holds}
 
@@ -26,6 +26,16 @@ abbrev pub RowAdded : ℕ → List ℕ → List ℕ → ℕ → ℕ → List ℕ
 RowAdded m b b′ r c e src k w n =
     Holds b b′ w ((r + k) * w) n (into (gf m) (scale (gf m) c e (readTerms (w - 1) src 0 k)) (readTerms (w - 1) b 0 r))
 
+-- the same, and no coefficient of the first r terms of b is zero
+pub record SumAsked (b : List ℕ) (r : ℕ) (src : List ℕ) (k : ℕ) (t : List ℕ) : Type 0 where
+  pub row : RowAsked b r src k t
+  pub nonzero : Coefs Nonzero (readTerms (length t - 1) b 0 r)
+
+-- the same terms inserted, where all of b may be touched
+abbrev pub SumAdded : ℕ → List ℕ → List ℕ → ℕ → ℕ → List ℕ → List ℕ → ℕ → ℕ → ℕ → Type 0
+SumAdded m b b′ r c e src k w n =
+    Holds b b′ w (length b) n (into (gf m) (scale (gf m) c e (readTerms (w - 1) src 0 k)) (readTerms (w - 1) b 0 r))
+
 -- p has i terms, q has k, and b has room for the products of all of them
 pub record ProductAsked (b p : List ℕ) (i : ℕ) (q : List ℕ) (k : ℕ) (t : List ℕ) : Type 0 where
   pub some : 0 < length t
@@ -37,3 +47,8 @@ pub record ProductAsked (b p : List ℕ) (i : ℕ) (q : List ℕ) (k : ℕ) (t :
 abbrev pub Product : ℕ → List ℕ → List ℕ → List ℕ → ℕ → List ℕ → ℕ → ℕ → ℕ → Type 0
 Product m b b′ p i q k w n =
     Holds b b′ w (i * k * w) n (mulPoly (gf m) (readTerms (w - 1) p 0 i) (readTerms (w - 1) q 0 k))
+
+-- the same product, where all of b may be touched
+abbrev pub ProductSummed : ℕ → List ℕ → List ℕ → List ℕ → ℕ → List ℕ → ℕ → ℕ → ℕ → Type 0
+ProductSummed m b b′ p i q k w n =
+    Holds b b′ w (length b) n (mulPoly (gf m) (readTerms (w - 1) p 0 i) (readTerms (w - 1) q 0 k))

@@ -72,7 +72,7 @@ fn write_constant(b: &mut [u8], c: u8, w: usize) -> usize
     1
 }
 
-// l times each of the k terms of src inserted among the r sorted terms of b, the last first, and
+// l times each of the k terms of src inserted among the r sorted terms of b, the first first, and
 // nothing where l is zero; answers how many there are now. t is room for a term.
 fn scaled_row(m: u8, b: &mut [u8], r: usize, l: u8, src: &[u8], k: usize, t: &mut [u8]) -> usize
     requires { ⌜ ScaledAsked (now b) r l (now src) k (now t) ⌝ }
@@ -84,14 +84,14 @@ fn scaled_row(m: u8, b: &mut [u8], r: usize, l: u8, src: &[u8], k: usize, t: &mu
     }
     let w = t.len();
     let mut n = r;
-    let mut j = k;
-    let mut at = k * w;
-    // l times the terms from j on are inserted
-    while 0 < j {
-        j -= 1;
-        at -= w;
+    let mut j = 0;
+    let mut at = 0;
+    // l times the terms before j are inserted
+    while j < k {
         scaled_term(m, l, &src[at..at + w], t);
         n = insert_term(b, n, t);
+        j += 1;
+        at += w;
     }
     n
 }

@@ -7,7 +7,7 @@ use bench_tests::arguments::flags;
 use bench_tests::compare::Side;
 use bench_tests::judge::judge;
 use bench_tests::limits::{MOST_VARIABLES, WORK};
-use bench_tests::plain::Plain;
+use bench_tests::plain::{moves, Plain};
 use bench_tests::report::Report;
 use bench_tests::texts::worst;
 use std::fs;
@@ -25,12 +25,19 @@ const MOST_ROUNDS: usize = 200;
 /// The fewest rounds for one text.
 const FEWEST_ROUNDS: usize = 5;
 
-/// The shortest times of the three judges on one text, in microseconds.
+/// How many of the folder's texts are its widest: those with the most moves by insertion alone.
+const WIDEST: usize = 10;
+
+/// The shortest times of the judges on one text, in microseconds, and the terms that the plain
+/// version moves; `inserted` is the plain version by insertion alone.
 struct Times {
     name: String,
     product: f64,
     plain: f64,
+    inserted: f64,
     independent: f64,
+    moves: u64,
+    moves_inserted: u64,
 }
 
 /// The buffers that are lent.
@@ -81,9 +88,12 @@ fn texts_of(folder: &Path) -> io::Result<Vec<(String, Vec<u8>)>> {
 
 /// Times the worst texts, then those of the folder, and closes with the largest ratio.
 fn measure_all(side: &dyn Side, texts: Vec<(String, Vec<u8>)>) -> Result<(), String> {
-    let heads = ["product us", "plain us", "independent", "/plain", "/indep."];
-    let [a, b, c, d, e] = heads;
-    println!("{:<48} {a:>11} {b:>11} {c:>11} {d:>7} {e:>7}", "text");
+    print!(
+        "{:<48} {:>11} {:>11} {:>11} ",
+        "text", "product us", "plain us", "insert only"
+    );
+    print!("{:>11} {:>7} {:>7} ", "independent", "/plain", "/indep.");
+    println!("{:>10} {:>11}", "moves", "insert only");
     let mut buffers = Buffers {
         left: vec![0; WORK],
         right: vec![0; WORK],
@@ -102,8 +112,12 @@ fn measure_all(side: &dyn Side, texts: Vec<(String, Vec<u8>)>) -> Result<(), Str
             eprintln!("{} of {} texts of the folder", at + 1, texts.len());
         }
     }
-    if !folder_times.is_empty() {
-        sum_of(&folder_times).show();
+    folder_times.sort_by_key(|times| std::cmp::Reverse(times.moves_inserted));
+    for (most, what) in [(usize::MAX, "texts"), (WIDEST, "widest texts")] {
+        let part = &folder_times[..most.min(folder_times.len())];
+        if !part.is_empty() {
+            sum_of(part, what).show();
+        }
     }
     close(&worst_times, &folder_times);
     Ok(())
@@ -128,14 +142,18 @@ fn close(worst: &[Times], folder: &[Times]) {
     }
 }
 
-/// All texts of the folder taken together.
-fn sum_of(all: &[Times]) -> Times {
+/// Texts of the folder taken together.
+fn sum_of(all: &[Times], what: &str) -> Times {
     let sum = |part: fn(&Times) -> f64| all.iter().map(part).sum();
+    let count = |part: fn(&Times) -> u64| all.iter().map(part).sum();
     Times {
-        name: format!("{} texts of the folder together", all.len()),
+        name: format!("{} {what} of the folder together", all.len()),
         product: sum(|times| times.product),
         plain: sum(|times| times.plain),
+        inserted: sum(|times| times.inserted),
         independent: sum(|times| times.independent),
+        moves: count(|times| times.moves),
+        moves_inserted: count(|times| times.moves_inserted),
     }
 }
 
@@ -148,30 +166,43 @@ impl Times {
     /// Shows one row.
     fn show(&self) {
         println!(
-            "{:<48} {:>11.1} {:>11.1} {:>11.1} {:>7.2} {:>7.2}",
+            "{:<48} {:>11.1} {:>11.1} {:>11.1} {:>11.1} {:>7.2} {:>7.2} {:>10} {:>11}",
             self.name,
             self.product,
             self.plain,
+            self.inserted,
             self.independent,
             self.ratio(),
             self.product / self.independent,
+            self.moves,
+            self.moves_inserted,
         );
     }
 }
 
-/// The shortest times of the three judges, taken in turn; they must answer the same.
+/// The shortest times of the judges, taken in turn; they must answer the same.
 fn measure(side: &dyn Side, name: &str, text: &[u8], lent: &mut Buffers) -> Result<Times, String> {
-    let mut shortest = [f64::INFINITY; 3];
+    let mut shortest = [f64::INFINITY; 4];
+    let mut moved = [0; 2];
     let began = Instant::now();
     let mut rounds = 0;
     while rounds < FEWEST_ROUNDS || (rounds < MOST_ROUNDS && began.elapsed() < SPENT) {
         let (product, first) = timed(|| lent.judge(side, text));
-        let (plain, second) = timed(|| lent.judge(&Plain, text));
-        let (independent, third) = timed(|| judge(text).report);
-        if first != second || second != third {
-            return Err(format!("{name}: {first:?}, {second:?}, {third:?}"));
+        moves::taken();
+        let (plain, second) = timed(|| lent.judge(&Plain::MergedRows, text));
+        moved[0] = moves::taken();
+        let (inserted, third) = timed(|| lent.judge(&Plain::InsertOnly, text));
+        moved[1] = moves::taken();
+        let (independent, fourth) = timed(|| judge(text).report);
+        if first != second || second != third || third != fourth {
+            return Err(format!(
+                "{name}: {first:?}, {second:?}, {third:?}, {fourth:?}"
+            ));
         }
-        for (short, time) in shortest.iter_mut().zip([product, plain, independent]) {
+        for (short, time) in shortest
+            .iter_mut()
+            .zip([product, plain, inserted, independent])
+        {
             *short = short.min(time);
         }
         rounds += 1;
@@ -180,7 +211,10 @@ fn measure(side: &dyn Side, name: &str, text: &[u8], lent: &mut Buffers) -> Resu
         name: name.to_string(),
         product: shortest[0],
         plain: shortest[1],
-        independent: shortest[2],
+        inserted: shortest[2],
+        independent: shortest[3],
+        moves: moved[0],
+        moves_inserted: moved[1],
     })
 }
 

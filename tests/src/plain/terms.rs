@@ -2,6 +2,7 @@
 //! variable compared first.
 
 use super::field::times;
+use super::{moves, Plain};
 use std::cell::Cell;
 use std::cmp::Ordering;
 
@@ -33,18 +34,18 @@ fn find_place(b: &[u8], k: usize, t: &[u8]) -> usize {
     low
 }
 
-/// Moves the bytes from..to up by w, the last one first.
-fn move_up(b: &mut [u8], from: usize, to: usize, w: usize) {
-    let bytes = Cell::from_mut(&mut b[from..to + w]).as_slice_of_cells();
-    for (new, old) in bytes[w..].iter().zip(bytes).rev() {
+/// Moves the bytes from..to up by `by`, the last one first.
+pub fn move_up(b: &mut [u8], from: usize, to: usize, by: usize) {
+    let bytes = Cell::from_mut(&mut b[from..to + by]).as_slice_of_cells();
+    for (new, old) in bytes[by..].iter().zip(bytes).rev() {
         new.set(old.get());
     }
 }
 
-/// Moves the bytes from..to down by w, the first one first.
-fn move_down(b: &mut [u8], from: usize, to: usize, w: usize) {
-    let bytes = Cell::from_mut(&mut b[from - w..to]).as_slice_of_cells();
-    for (new, old) in bytes.iter().zip(&bytes[w..]) {
+/// Moves the bytes from..to down by `by`, the first one first.
+pub fn move_down(b: &mut [u8], from: usize, to: usize, by: usize) {
+    let bytes = Cell::from_mut(&mut b[from - by..to]).as_slice_of_cells();
+    for (new, old) in bytes.iter().zip(&bytes[by..]) {
         new.set(old.get());
     }
 }
@@ -60,6 +61,7 @@ pub fn insert_term(b: &mut [u8], k: usize, t: &[u8]) -> usize {
             return k;
         }
         move_down(b, at + w, end, w);
+        moves::count(k - 1 - place);
         return k - 1;
     }
     if t[0] == 0 {
@@ -67,6 +69,7 @@ pub fn insert_term(b: &mut [u8], k: usize, t: &[u8]) -> usize {
     }
     move_up(b, at, end, w);
     b[at..at + w].copy_from_slice(t);
+    moves::count(k + 1 - place);
     k + 1
 }
 
@@ -88,30 +91,19 @@ fn power_sum(a: u8, b: u8) -> u8 {
 }
 
 /// The product of the terms p and q, written to t.
-fn term_product(p: &[u8], q: &[u8], t: &mut [u8]) {
+pub fn term_product(p: &[u8], q: &[u8], t: &mut [u8]) {
     t[0] = times(p[0], q[0]);
     for ((sum, e), f) in t[1..].iter_mut().zip(&p[1..]).zip(&q[1..]) {
         *sum = power_sum(*e, *f);
     }
 }
 
-/// The product of two polynomials, written to the front of b: row by row, the last first.
-pub fn product(b: &mut [u8], p: &[u8], q: &[u8], w: usize) -> usize {
-    let mut room = [0; WIDEST];
-    let t = &mut room[..w];
-    let mut k = 0;
-    for f in p.chunks_exact(w).rev() {
-        for g in q.chunks_exact(w).rev() {
-            term_product(f, g, t);
-            k = insert_term(b, k, t);
-        }
-    }
-    k
-}
+/// A map: its coefficients and its constant.
+pub type Image<'a> = (&'a [u8; 8], u8);
 
-/// The map with these coefficients and this constant applied to src, written to the front of b;
-/// src is squared on and on.
-pub fn apply(b: &mut [u8], list: &[u8; 8], constant: u8, src: &mut [u8], w: usize) -> usize {
+/// The map applied to src, written to the front of b; src is squared on and on.
+pub fn apply(b: &mut [u8], map: Image, src: &mut [u8], w: usize, way: Plain) -> usize {
+    let (list, constant) = map;
     let mut room = [0; WIDEST];
     let t = &mut room[..w];
     let mut k = 0;
@@ -122,9 +114,13 @@ pub fn apply(b: &mut [u8], list: &[u8; 8], constant: u8, src: &mut [u8], w: usiz
     }
     for l in list {
         if *l != 0 {
-            for p in src.chunks_exact(w).rev() {
-                t.copy_from_slice(p);
-                t[0] = times(*l, p[0]);
+            for j in 0..src.len() / w {
+                let at = match way {
+                    Plain::MergedRows => j * w,
+                    Plain::InsertOnly => src.len() - (j + 1) * w,
+                };
+                t.copy_from_slice(&src[at..at + w]);
+                t[0] = times(*l, t[0]);
                 k = insert_term(b, k, t);
             }
         }

@@ -1,8 +1,10 @@
 //! The values of a routine, one behind the other in the first work buffer; the second one holds
 //! loaded operands.
 
+use super::product::product;
 use super::routine::{Op, Operand, Routine};
-use super::terms::{add_terms, apply, product};
+use super::terms::{add_terms, apply};
+use super::Plain;
 
 /// Terms that stand together with the raw size of the next place.
 const MOST_TERMS: usize = 3_840;
@@ -26,6 +28,7 @@ pub struct Values<'a> {
     starts: [usize; 256],
     sizes: [usize; 256],
     top: usize,
+    way: Plain,
 }
 
 impl Source {
@@ -40,7 +43,7 @@ impl Source {
 
 impl<'a> Values<'a> {
     /// No value is formed yet.
-    pub fn new(routine: &'a Routine, left: &'a mut [u8], right: &'a mut [u8]) -> Self {
+    pub fn new(routine: &'a Routine, left: &'a mut [u8], right: &'a mut [u8], way: Plain) -> Self {
         Values {
             routine,
             lists: routine.maps.map(|map| map.coefficients()),
@@ -50,6 +53,7 @@ impl<'a> Values<'a> {
             starts: [0; 256],
             sizes: [0; 256],
             top: 0,
+            way,
         }
     }
 
@@ -167,10 +171,10 @@ impl<'a> Values<'a> {
                 p
             }
             Op::Xor(..) => add_terms(new, 0, &self.right[..(p + q) * w], w),
-            Op::Mul(..) => product(new, first, second, w),
+            Op::Mul(..) => product(new, first, second, w, self.way),
             Op::App(f, _) => {
                 let constant = self.routine.maps[f].constant;
-                apply(new, &self.lists[f], constant, first, w)
+                apply(new, (&self.lists[f], constant), first, w, self.way)
             }
         };
         self.starts[i] = self.top;

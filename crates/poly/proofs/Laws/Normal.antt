@@ -100,7 +100,7 @@ module _ (F : Ops) where
   place-above x Ordering·gt c e d f p r he hf a = hf
 
   -- powers that come before a list and a term come before the term inserted
-  insert-above : (x : List ℕ) (c : ℕ) (e : List ℕ) (p : Poly) → order x e ≡ Ordering·lt → Above x p → Sorted p
+  pub insert-above : (x : List ℕ) (c : ℕ) (e : List ℕ) (p : Poly) → order x e ≡ Ordering·lt → Above x p → Sorted p
       → Above x (insert F c e p)
   insert-above x c e [] he a s = keep-above x c e [] he tt
   insert-above x c e (term d f ∷ p) he a s = place-above x (order e f) c e d f p (insert F c e p) he a (s .0)

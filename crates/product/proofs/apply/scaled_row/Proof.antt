@@ -1,11 +1,11 @@
--- `poly::apply::scaled_row` meets its contract. The invariant: `InRow`, with no powers. Assumes nothing.
+-- `product::apply::scaled_row` meets its contract. The invariant: `InRow`, with no powers. Assumes nothing.
 use mathlib.Core.List.{[]}
 use native.Mathlib.Omega.{arith}
-use Prim.Native.Nat.{_<_}
+use Prim.Native.Nat.{_+_, _-_, _≤_, _<_}
+use Rattle.field.proofs.Laws.Ring.{ring}
 use lib.ListN.{length}
-use Rattle.buffer.proofs.Lent.Strides.{Back}
 use Rattle.buffer.proofs.Lent.Strides.{pos-of-ne}
-use Rattle.product.proofs.Lent.Products.{InRow, row-start, row-done, row-back, next-length, row-asks, row-more}
+use Rattle.product.proofs.Lent.Products.{InRow, row-start, row-done, fits, next-length, row-asks, row-more}
 use Rattle.product.proofs.Lent.Applying.{scaled-none, scaled-row-asks, scaled-row-done}
 use borrow.Author.Needs.{needs}
 use Rattle.product.proofs.apply.scaled_row.Statement.{statement}
@@ -15,25 +15,22 @@ abbrev Inv-loop : tie.InvT-loop
 Inv-loop m b₀ r l src k t₀ w n₀ j₀ at₀ b t n j at = (0 < l) × InRow m b₀ r l [] src k t₀ b t n j at
 
 abbrev μ-loop : tie.MeasureT-loop
-μ-loop m b₀ r l src k t₀ w n₀ j₀ at₀ b t n j at = j
+μ-loop m b₀ r l src k t₀ w n₀ j₀ at₀ b t n j at = k - j
 
--- the place of the next term of src
+-- the next term stands in src
 here : (c : tie.In-loop Inv-loop μ-loop) →
     let a = c .before .before .before .before .before .before .args in
-    Back (c .before .loop .j) (length (a .t .now)) (c .before .loop .at) (length (a .src .now))
+    c .before .loop .at + length (a .t .now) ≤ length (a .src .now)
 here c =
     let l = c .before .loop in
     let a = c .before .before .before .before .before .before .args in
-    row-back (a .m) (a .b .now) (a .r) (a .l) [] (a .src .now) (a .k) (a .t .now) (l .b) (l .t) (l .n)
+    fits (a .m) (a .b .now) (a .r) (a .l) [] (a .src .now) (a .k) (a .t .now) (l .b) (l .t) (l .n)
     (l .j) (l .at) (omega arith) (l .inv .1)
 
 returns : tie.Need-returns Inv-loop μ-loop
 returns c =
     let a = c .before .before .before .before .args in
     scaled-none (a .m) (a .b .now) (a .r) (a .l) (a .src .now) (a .k) (length (a .t .now)) (c .if1 .taken)
-
-mul-at : tie.Need-mul-at Inv-loop μ-loop
-mul-at c = omega (arith, c .before .before .before .before .pre .source)
 
 loop-holds : tie.Need-loop-holds Inv-loop μ-loop
 loop-holds c =
@@ -44,12 +41,6 @@ loop-holds c =
       row-start (a .m) (a .b .now) (a .r) (a .l) [] (a .src .now) (a .k) (a .t .now)
           (scaled-row-asks (a .b .now) (a .r) (a .l) (a .src .now) (a .k) (a .t .now) p r′),
     )
-
-sub-j : tie.Need-sub-j Inv-loop μ-loop
-sub-j c = search needs
-
-sub-at : tie.Need-sub-at Inv-loop μ-loop
-sub-at c = omega (arith, here c)
 
 add-scaled-term : tie.Need-add-scaled-term Inv-loop μ-loop
 add-scaled-term c = omega (arith, here c)
@@ -82,6 +73,13 @@ insert-term-requires c κs =
     row-asks (a .m) (a .b .now) (a .r) (a .l) [] (a .src .now) (a .k) (a .t .now) (l .b) (l .t) (l .n) (l .j) (l .at)
     (omega arith) (l .inv .1) (p .last .1 .1 .1 .0) (t′ .given) (p .ensures)
 
+add-j : tie.Need-add-j Inv-loop μ-loop
+add-j c = search needs
+
+add-at : tie.Need-add-at Inv-loop μ-loop
+add-at c =
+    omega (arith, here (c .before .before .before .before .before .before .before .before .before .before))
+
 loop-less : tie.Need-loop-less Inv-loop μ-loop
 loop-less c = search needs
 
@@ -96,7 +94,7 @@ loop-again c =
       l .inv .0,
       row-more (a .m) (a .b .now) (a .r) (a .l) [] (a .src .now) (a .k) (a .t .now) (l .b) (l .t) (l .n) (l .j) (l .at)
           (omega arith) (l .inv .1) (p .last .1 .1 .1 .0) (t′ .given) (p .ensures)
-          (i .last .0) (i .result) (i .ensures (a .m)),
+          (ring (a .m) (omega arith)) (i .last .0) (i .result) (i .ensures (a .m)),
     )
 
 same-length : tie.Need-same-length Inv-loop μ-loop
@@ -120,16 +118,15 @@ scaled-row-spec =
     Inv-loop
     μ-loop
     returns
-    mul-at
     loop-holds
-    sub-j
-    sub-at
     add-scaled-term
     sub-scaled-term
     part-scaled-term-start
     part-scaled-term-end
     scaled-term-requires
     insert-term-requires
+    add-j
+    add-at
     loop-less
     loop-again
     same-length

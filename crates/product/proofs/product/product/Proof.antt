@@ -1,107 +1,108 @@
--- `poly::product::product` meets its contract. The invariant: `InProduct`. Assumes nothing.
+-- `product::product::product` meets its contract: the rows of the shorter factor, in the part that is lent for them.
+-- Assumes nothing.
+use Prim.Native.Nat.{_*_, _≤_}
 use native.Mathlib.Omega.{arith}
 use lib.ListN.{length}
-use Rattle.buffer.proofs.Lent.Strides.{Back}
-use Rattle.product.proofs.Lent.Products.{InProduct, product-start, product-done, product-back, product-asks}
-use Rattle.product.proofs.Lent.Products.{product-more}
+use Rattle.field.proofs.Laws.Ring.{ring}
+use Rattle.buffer.proofs.Lent.Strides.{row-count}
+use Rattle.product.proofs.Lent.Parts.{part}
+use Rattle.product.proofs.Lent.Factors.{product-lent, product-turned, lent-asks, turned-asks}
 use borrow.Author.Needs.{needs}
 use Rattle.product.proofs.product.product.Statement.{statement}
 use Rattle.product.proofs.product.product.Tie as tie
 
-abbrev Inv-loop : tie.InvT-loop
-Inv-loop m b₀ p i q k t₀ w n₀ j₀ at₀ b t n j at = InProduct m b₀ p i q k t₀ b t n j at
-
-abbrev μ-loop : tie.MeasureT-loop
-μ-loop m b₀ p i q k t₀ w n₀ j₀ at₀ b t n j at = j
-
--- the place of the next term of p
-here : (c : tie.In-loop Inv-loop μ-loop) →
-    let a = c .before .before .before .before .before .before .args in
-    Back (c .before .loop .j) (length (a .t .now)) (c .before .loop .at) (length (a .p .now))
+-- as many terms as there are products stand in the buffer
+here : (c : tie.Start) → c .args .i * c .args .k ≤ length (c .args .b .now)
 here c =
-    let l = c .before .loop in
-    let a = c .before .before .before .before .before .before .args in
-    product-back (a .m) (a .b .now) (a .p .now) (a .i) (a .q .now) (a .k) (a .t .now) (l .b) (l .t)
-    (l .n) (l .j) (l .at) (omega arith) (l .inv)
+    let a = c .args in
+    let h = c .pre in
+    omega (arith, row-count (a .i * a .k) (length (a .t .now)) (h .some), h .room)
 
-mul-at : tie.Need-mul-at Inv-loop μ-loop
-mul-at c = omega (arith, c .before .before .before .before .pre .left)
+mul-top : tie.Need-mul-top
+mul-top c = omega (arith, here (c .before .before .before .before))
 
-loop-holds : tie.Need-loop-holds Inv-loop μ-loop
-loop-holds c =
-    let a = c .before .before .before .before .args in
-    let r = c .before .before .before .before .pre in
-    product-start (a .m) (a .b .now) (a .p .now) (a .i) (a .q .now) (a .k) (a .t .now) r
+mul-top-2 : tie.Need-mul-top-2
+mul-top-2 c = search needs
 
-sub-j : tie.Need-sub-j Inv-loop μ-loop
-sub-j c = search needs
+sub-product-rows : tie.Need-sub-product-rows
+sub-product-rows c = search needs
 
-sub-at : tie.Need-sub-at Inv-loop μ-loop
-sub-at c = omega (arith, here c)
+part-product-rows-start : tie.Need-part-product-rows-start
+part-product-rows-start c = search needs
 
-add-product-row : tie.Need-add-product-row Inv-loop μ-loop
-add-product-row c = omega (arith, here (c .before))
+part-product-rows-end : tie.Need-part-product-rows-end
+part-product-rows-end c = search needs
 
-sub-product-row : tie.Need-sub-product-row Inv-loop μ-loop
-sub-product-row c = omega (arith, here (c .before))
+product-rows-requires : tie.Need-product-rows-requires
+product-rows-requires c κs =
+    let o = c .before .before .before .before .before .before .before in
+    let a = o .args in
+    turned-asks (part (a .b .now) 0 (a .i * a .k * length (a .t .now))) (a .p .now) (a .i) (a .q .now) (a .k)
+    (a .t .now) (lent-asks (a .b .now) (a .p .now) (a .i) (a .q .now) (a .k) (a .t .now) (o .pre))
 
-part-product-row-start : tie.Need-part-product-row-start Inv-loop μ-loop
-part-product-row-start c = omega (arith, here (c .before))
+same-length : tie.Need-same-length
+same-length c = search needs
 
-part-product-row-end : tie.Need-part-product-row-end Inv-loop μ-loop
-part-product-row-end c = omega (arith, here (c .before))
+same-length-2 : tie.Need-same-length-2
+same-length-2 c = search needs
 
-product-row-requires : tie.Need-product-row-requires Inv-loop μ-loop
-product-row-requires c κs =
-    let l = c .before .before .before .before .loop in
-    let a = c .before .before .before .before .before .before .before .before .before .args in
-    product-asks (a .m) (a .b .now) (a .p .now) (a .i) (a .q .now) (a .k) (a .t .now) (l .b) (l .t) (l .n) (l .j)
-    (l .at) (omega arith) (l .inv)
-
-loop-less : tie.Need-loop-less Inv-loop μ-loop
-loop-less c = search needs
-
-loop-again : tie.Need-loop-again Inv-loop μ-loop
-loop-again c =
-    let o = c .before .before .before .before .before .before .before .before .before .before in
-    let l = c .before .before .before .before .before .before .before .before .before .loop in
-    let a = o .before .before .before .before .args in
-    let p′ = c .before .before .before .before .product-row in
-    let t′ = c .before .t in
-    product-more (a .m) (a .b .now) (a .p .now) (a .i) (a .q .now) (a .k) (a .t .now) (l .b) (l .t) (l .n) (l .j)
-    (l .at) (omega arith) (l .inv)
-    (p′ .last .1 .0) (p′ .last .1 .1 .1 .1 .1 .1 .0) (p′ .result) (t′ .given) (p′ .ensures)
-
-same-length : tie.Need-same-length Inv-loop μ-loop
-same-length c = c .before .loop .inv .holds .size
-
-same-length-2 : tie.Need-same-length-2 Inv-loop μ-loop
-same-length-2 c = c .before .loop .inv .spare
-
-returns : tie.Need-returns Inv-loop μ-loop
+returns : tie.Need-returns
 returns c =
-    let l = c .before .loop in
-    let a = c .before .before .before .before .before .before .args in
-    product-done (a .m) (a .b .now) (a .p .now) (a .i) (a .q .now) (a .k) (a .t .now) (l .b) (l .t) (l .n) (l .j)
-    (l .at) (omega arith) (l .inv)
+    let o = c .before .before .before .before .before .before .before .before .before .before .before .before in
+    let a = o .args in
+    let r = c .before .before .before .before .product-rows in
+    let w = length (a .t .now) in
+    product-lent (a .m) (a .b .now) (a .p .now) (a .i) (a .q .now) (a .k) w (o .pre .some) (o .pre .room)
+    (r .last .1 .0) (r .result)
+    (product-turned (a .m) (ring (a .m) (omega arith)) (part (a .b .now) 0 (a .i * a .k * w)) (r .last .1 .0)
+    (a .p .now) (a .i) (a .q .now) (a .k) w (r .result) (r .ensures))
+
+sub-product-rows-2 : tie.Need-sub-product-rows-2
+sub-product-rows-2 c = search needs
+
+part-product-rows-start-2 : tie.Need-part-product-rows-start-2
+part-product-rows-start-2 c = search needs
+
+part-product-rows-end-2 : tie.Need-part-product-rows-end-2
+part-product-rows-end-2 c = search needs
+
+product-rows-requires-2 : tie.Need-product-rows-requires-2
+product-rows-requires-2 c κs =
+    let o = c .before .before .before .before .before .before .before in
+    let a = o .args in
+    lent-asks (a .b .now) (a .p .now) (a .i) (a .q .now) (a .k) (a .t .now) (o .pre)
+
+same-length-3 : tie.Need-same-length-3
+same-length-3 c = search needs
+
+same-length-4 : tie.Need-same-length-4
+same-length-4 c = search needs
+
+returns-2 : tie.Need-returns-2
+returns-2 c =
+    let o = c .before .before .before .before .before .before .before .before .before .before .before .before in
+    let a = o .args in
+    let r = c .before .before .before .before .product-rows2 in
+    product-lent (a .m) (a .b .now) (a .p .now) (a .i) (a .q .now) (a .k) (length (a .t .now)) (o .pre .some)
+    (o .pre .room) (r .last .1 .0) (r .result) (r .ensures)
 
 pub product-spec : {M : Type 1} → statement M
 product-spec =
     tie.close
     (tie.spec
-    Inv-loop
-    μ-loop
-    mul-at
-    loop-holds
-    sub-j
-    sub-at
-    add-product-row
-    sub-product-row
-    part-product-row-start
-    part-product-row-end
-    product-row-requires
-    loop-less
-    loop-again
+    mul-top
+    mul-top-2
+    sub-product-rows
+    part-product-rows-start
+    part-product-rows-end
+    product-rows-requires
     same-length
     same-length-2
-    returns)
+    returns
+    sub-product-rows-2
+    part-product-rows-start-2
+    part-product-rows-end-2
+    product-rows-requires-2
+    same-length-3
+    same-length-4
+    returns-2)

@@ -1,9 +1,10 @@
--- `poly::product::product_row` meets its contract. The invariant: `InRow`. Assumes nothing.
+-- `product::product::product_row` meets its contract. The invariant: `InRow`. Assumes nothing.
 use mathlib.Core.Path.{_≡_, sym, _∙_}
+use Prim.Native.Nat.{_+_, _-_, _≤_}
 use native.Mathlib.Omega.{arith}
+use Rattle.field.proofs.Laws.Ring.{ring}
 use lib.ListN.{length, getD, drop}
-use Rattle.buffer.proofs.Lent.Strides.{Back}
-use Rattle.product.proofs.Lent.Products.{InRow, row-start, row-done, row-back, next-length, row-asks, row-more}
+use Rattle.product.proofs.Lent.Products.{InRow, row-start, row-done, fits, next-length, row-asks, row-more}
 use borrow.Author.Needs.{needs}
 use Rattle.product.proofs.product.product_row.Statement.{statement}
 use Rattle.product.proofs.product.product_row.Tie as tie
@@ -13,20 +14,17 @@ Inv-loop m b₀ r f src k t₀ w n₀ j₀ at₀ b t n j at =
     (length f ≡ length t₀) × InRow m b₀ r (getD f 0 0) (drop 1 f) src k t₀ b t n j at
 
 abbrev μ-loop : tie.MeasureT-loop
-μ-loop m b₀ r f src k t₀ w n₀ j₀ at₀ b t n j at = j
+μ-loop m b₀ r f src k t₀ w n₀ j₀ at₀ b t n j at = k - j
 
--- the place of the next term of src
+-- the next term stands in src
 here : (c : tie.In-loop Inv-loop μ-loop) →
     let a = c .before .before .before .before .before .before .args in
-    Back (c .before .loop .j) (length (a .t .now)) (c .before .loop .at) (length (a .src .now))
+    c .before .loop .at + length (a .t .now) ≤ length (a .src .now)
 here c =
     let l = c .before .loop in
     let a = c .before .before .before .before .before .before .args in
-    row-back (a .m) (a .b .now) (a .r) (getD (a .f .now) 0 0) (drop 1 (a .f .now)) (a .src .now) (a .k)
+    fits (a .m) (a .b .now) (a .r) (getD (a .f .now) 0 0) (drop 1 (a .f .now)) (a .src .now) (a .k)
     (a .t .now) (l .b) (l .t) (l .n) (l .j) (l .at) (omega arith) (l .inv .1)
-
-mul-at : tie.Need-mul-at Inv-loop μ-loop
-mul-at c = omega (arith, c .before .before .before .before .pre .1 .source)
 
 loop-holds : tie.Need-loop-holds Inv-loop μ-loop
 loop-holds c =
@@ -36,12 +34,6 @@ loop-holds c =
       row-start (a .m) (a .b .now) (a .r) (getD (a .f .now) 0 0) (drop 1 (a .f .now)) (a .src .now) (a .k)
           (a .t .now) (r′ .1),
     )
-
-sub-j : tie.Need-sub-j Inv-loop μ-loop
-sub-j c = search needs
-
-sub-at : tie.Need-sub-at Inv-loop μ-loop
-sub-at c = omega (arith, here c)
 
 add-term-product : tie.Need-add-term-product Inv-loop μ-loop
 add-term-product c = omega (arith, here c)
@@ -78,6 +70,13 @@ insert-term-requires c κs =
     (l .b) (l .t) (l .n) (l .j) (l .at)
     (omega arith) (l .inv .1) (p .last .1 .1 .1 .0) (t′ .given) (p .ensures)
 
+add-j : tie.Need-add-j Inv-loop μ-loop
+add-j c = search needs
+
+add-at : tie.Need-add-at Inv-loop μ-loop
+add-at c =
+    omega (arith, here (c .before .before .before .before .before .before .before .before .before .before))
+
 loop-less : tie.Need-loop-less Inv-loop μ-loop
 loop-less c = search needs
 
@@ -93,7 +92,7 @@ loop-again c =
       row-more (a .m) (a .b .now) (a .r) (getD (a .f .now) 0 0) (drop 1 (a .f .now)) (a .src .now) (a .k) (a .t .now)
           (l .b) (l .t) (l .n) (l .j) (l .at)
           (omega arith) (l .inv .1) (p .last .1 .1 .1 .0) (t′ .given) (p .ensures)
-          (i .last .0) (i .result) (i .ensures (a .m)),
+          (ring (a .m) (omega arith)) (i .last .0) (i .result) (i .ensures (a .m)),
     )
 
 same-length : tie.Need-same-length Inv-loop μ-loop
@@ -115,16 +114,15 @@ product-row-spec =
     (tie.spec
     Inv-loop
     μ-loop
-    mul-at
     loop-holds
-    sub-j
-    sub-at
     add-term-product
     sub-term-product
     part-term-product-start
     part-term-product-end
     term-product-requires
     insert-term-requires
+    add-j
+    add-at
     loop-less
     loop-again
     same-length
