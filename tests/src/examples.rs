@@ -1,4 +1,4 @@
-//! The examples E1 to E13 as texts, each with the line that the program prints.
+//! The examples E1 to E13 and those of M-102 as texts, each with the line that the program prints.
 
 use crate::maps::{FIPS, SQUARING};
 use crate::texts::draft::{map_line, Draft};
@@ -40,6 +40,8 @@ pub fn examples() -> Vec<Example> {
     add("E12a", sixteen_variables(""), "equal 0 0 0 0 1");
     add("E12b", sixteen_variables("rand r"), "refused 9 7 0 0 0");
     add("E13", one_idle(), "equal 0 0 0 0 1");
+    add("cancelled", cancelled(), "equal 0 0 0 0 1");
+    add("multiplied", multiplied(), "equal 0 0 0 0 1");
     all
 }
 
@@ -141,6 +143,19 @@ fn one_idle() -> Draft {
     Draft::of(
         "shares 2\ninput a\ninput b\norigin\nmul c a #02\nresult c\nmasked\n\
         mul y.0 a.0 #02\nmul y.1 a.1 #02\noutput y.0 y.1",
+    )
+}
+
+/// An original of xor c a a, where a is the only input.
+fn cancelled() -> Draft {
+    Draft::of("shares 1\ninput a\norigin\nxor c a a\nresult c\nmasked\nxor d a.0 a.0\noutput d")
+}
+
+/// The second input multiplied by #00 in both blocks.
+fn multiplied() -> Draft {
+    Draft::of(
+        "shares 2\ninput a\ninput b\norigin\nmul c b #00\nxor d a c\nresult d\nmasked\n\
+        mul c.0 b.0 #00\nmul c.1 b.1 #00\nxor d.0 a.0 c.0\nxor d.1 a.1 c.1\noutput d.0 d.1",
     )
 }
 

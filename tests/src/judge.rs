@@ -44,12 +44,27 @@ pub fn judge(text: &[u8]) -> Judgement {
 
 /// Judges the routine of an accepted text.
 pub fn judge_routine(routine: &Routine) -> Judgement {
-    let verdict = match difference(routine) {
-        Err(TooMany { line }) => return Judgement::unknown(line, routine.idle()),
-        Ok(difference) if difference.size() == 0 => Verdict::Equal,
-        Ok(difference) => return Judgement::differs(routine, difference),
+    let (result, difference) = match result_and_difference(routine) {
+        Err(TooMany { line }) => return Judgement::unknown(line),
+        Ok(values) => values,
     };
-    Judgement::accepted(verdict, routine.idle())
+    let idle = idle_inputs(routine, &result);
+    if difference.size() == 0 {
+        return Judgement::accepted(Verdict::Equal, idle);
+    }
+    Judgement::differs(routine, difference, idle)
+}
+
+/// The number of inputs for all values of which the original's result is the same: with 00 put in
+/// for each share of the input, the result stays as it is.
+fn idle_inputs(routine: &Routine, result: &Polynomial) -> usize {
+    let stays = |input: &usize| {
+        let first = input * routine.shares;
+        let shares = first..first + routine.shares;
+        let put = |p: Polynomial, share| p.put(share, 0);
+        shares.fold(result.clone(), put) == *result
+    };
+    (0..routine.inputs).filter(stays).count()
 }
 
 impl Judgement {
@@ -70,15 +85,15 @@ impl Judgement {
     }
 
     /// The answer where a place exceeds the limit.
-    fn unknown(line: u64, idle: usize) -> Self {
-        let mut judgement = Judgement::accepted(Verdict::Unknown, idle);
+    fn unknown(line: u64) -> Self {
+        let mut judgement = Judgement::accepted(Verdict::Unknown, 0);
         judgement.report.line = line;
         judgement
     }
 
     /// The answer where a term is left.
-    fn differs(routine: &Routine, difference: Polynomial) -> Self {
-        let mut judgement = Judgement::accepted(Verdict::Differs, routine.idle());
+    fn differs(routine: &Routine, difference: Polynomial, idle: usize) -> Self {
+        let mut judgement = Judgement::accepted(Verdict::Differs, idle);
         judgement.report.terms = difference.size() as u64;
         judgement.bytes = first_bytes(difference, routine.variables);
         let sum: u64 = judgement.bytes.iter().map(|byte| *byte as u64).sum();
@@ -106,8 +121,8 @@ fn first_bytes(mut difference: Polynomial, variables: usize) -> Vec<u8> {
     bytes
 }
 
-/// The result plus all outputs, or the first place that exceeds the limit.
-fn difference(routine: &Routine) -> Result<Polynomial, TooMany> {
+/// The result, and the result plus all outputs; or the first place that exceeds the limit.
+fn result_and_difference(routine: &Routine) -> Result<(Polynomial, Polynomial), TooMany> {
     let coefficients = routine.maps.iter().map(Map::coefficients).collect();
     let mut count = Count {
         routine,
@@ -119,11 +134,12 @@ fn difference(routine: &Routine) -> Result<Polynomial, TooMany> {
     let inputs = shares.chunks(routine.shares.max(1)).map(sum_of).collect();
     let origin = count.block_values(&routine.origin, inputs)?;
     let masked = count.block_values(&routine.masked, shares)?;
-    let mut parts = vec![origin[routine.result].clone()];
+    let result = origin[routine.result].clone();
+    let mut parts = vec![result.clone()];
     parts.extend(routine.outputs.iter().map(|at| masked[*at].clone()));
     let raw = parts.iter().map(Polynomial::size).sum();
     count.place(raw, routine.output_line)?;
-    Ok(sum_of(&parts))
+    Ok((result, sum_of(&parts)))
 }
 
 /// The sum of polynomials.

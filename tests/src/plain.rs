@@ -92,20 +92,23 @@ fn judge_routine(
         line: 0,
         terms: 0,
         tried: 0,
-        idle: routine.idle() as u64,
+        idle: 0,
     };
-    match Values::new(routine, left, right, way).difference() {
+    let mut values = Values::new(routine, left, right, way);
+    match values.difference() {
         Err(line) => {
             report.verdict = Verdict::Unknown;
             report.line = line as u64;
         }
-        Ok((_, 0)) => {}
         Ok((start, k)) => {
-            let n = routine.variables;
-            report.verdict = Verdict::Differs;
-            report.terms = k as u64;
-            let tried = search::search(&mut left[start..], k, n + 1, &mut list[..n]);
-            report.tried = tried as u64;
+            report.idle = values.idle() as u64;
+            if k > 0 {
+                let n = routine.variables;
+                report.verdict = Verdict::Differs;
+                report.terms = k as u64;
+                let tried = search::search(&mut left[start..], k, n + 1, &mut list[..n]);
+                report.tried = tried as u64;
+            }
         }
     }
     report

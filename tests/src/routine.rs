@@ -40,30 +40,3 @@ pub struct Routine {
     pub outputs: Vec<usize>,
     pub output_line: u64,
 }
-
-impl Operation {
-    /// The operands that are read.
-    pub fn sources(&self) -> Vec<Source> {
-        match *self {
-            Operation::Set(a) | Operation::App(_, a) => vec![a],
-            Operation::Xor(a, b) | Operation::Mul(a, b) => vec![a, b],
-            Operation::Rand(_) => vec![],
-        }
-    }
-}
-
-impl Routine {
-    /// The number of inputs that no origin statement reads and result does not name.
-    pub fn idle(&self) -> usize {
-        let mut read = vec![false; self.inputs + self.origin.len()];
-        for statement in &self.origin {
-            for source in statement.operation.sources() {
-                if let Source::Value(at) = source {
-                    read[at] = true;
-                }
-            }
-        }
-        read[self.result] = true;
-        read[..self.inputs].iter().filter(|read| !**read).count()
-    }
-}

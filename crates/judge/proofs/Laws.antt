@@ -1,5 +1,6 @@
-pub mod Used
+pub mod Occurring
 pub mod Lasts
+pub mod Idling
 pub mod Choosing
 pub mod Settling
 pub mod Judging

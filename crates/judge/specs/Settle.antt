@@ -11,7 +11,6 @@ use Rattle.text.specs.Routine.{routineOf}
 use Rattle.verdict.specs.declared.report.Report.{Report}
 use Rattle.verdict.specs.Instances.{modulusOf, symbolic, difference}
 use Rattle.verdict.specs.Count.{lastStep}
-use Rattle.verdict.specs.Idle.{idle}
 use Rattle.verdict.specs.Judge.{decided, judgeRoutine, report, listBytes, workBytes, zeroed, fronted, listAfter}
 use Rattle.values.specs.declared.shelf.Shelf.{Shelf}
 use Rattle.values.specs.Shelf.{termsAt, Laid}
@@ -51,11 +50,6 @@ chosen r = firstDiffering (gf (modulusOf (routineOf r))) (r .variables) (differe
 pub record Chosen (r : code.Routine) (list list′ : List ℕ) (n : ℕ) : Type 0 where
   pub listed : list′ ≡ fronted (chosen r) list
   pub count : n ≡ tried (chosen r)
-
--- what deciding asks besides the buffers: the number of idle inputs, and a list that is long enough
-pub record DecideAsked (r : code.Routine) (i : ℕ) (list : List ℕ) : Type 0 where
-  pub idled : i ≡ idle (routineOf r)
-  pub long : listBytes ≤ length list
 
 -- the report and the list, by what the difference decides
 pub record DifferenceDecided (r : code.Routine) (list : List ℕ) (answer : Report) (list′ : List ℕ) : Type 0 where

@@ -70,8 +70,7 @@ pub(crate) fn judge_routine(
         (now (left .entry)) (now (right .entry)) (now (list .entry)) a
         (now (left .exit)) (now (right .exit)) (now (list .exit)) ⌝ }
 {
-    let i = idle::idle(r);
-    let answer = decide(r, i, &mut left[0..n], &mut right[0..n], list);
+    let answer = decide(r, &mut left[0..n], &mut right[0..n], list);
     clear(&mut left[0..n]);
     clear(&mut right[0..n]);
     answer

@@ -1,4 +1,5 @@
 // What the count and the difference decide of a routine.
+use crate::idle::idle;
 use search::search::search;
 use survey::difference::form_difference;
 use survey::difference::outputs_size;
@@ -15,10 +16,12 @@ use values::source::place;
 use verdict::report::Report;
 use verdict::report::Verdict;
 ghost use mathlib.Core.Path.{_≡_};
-ghost use Rattle.verdict.specs.Judge.{unknown, report};
+ghost use Prim.Native.Nat.{_≤_};
+ghost use lib.ListN.{length};
+ghost use Rattle.verdict.specs.Judge.{unknown, report, listBytes};
 ghost use Rattle.survey.specs.Survey.{Ready, Lent, Directed};
 ghost use Rattle.judge.specs.Settle.{LastSized, LastAsked, LastFormed, ChooseAsked, Chosen};
-ghost use Rattle.judge.specs.Settle.{DecideAsked, DifferenceDecided, RoutineDecided};
+ghost use Rattle.judge.specs.Settle.{DifferenceDecided, RoutineDecided};
 
 // The raw size of the difference: the sizes of the result and of all outputs added.
 fn difference_raw(r: Routine, d: Shelf) -> usize
@@ -55,8 +58,8 @@ fn choose(r: Routine, left: &mut [u8], top: usize, k: usize, list: &mut [u8]) ->
 }
 
 // Unknown, with its line.
-fn give_up(line: usize, idle: usize) -> Report
-    ensures { λ r. ⌜ r ≡ report (unknown line idle) ⌝ }
+fn give_up(line: usize) -> Report
+    ensures { λ r. ⌜ r ≡ report (unknown line) ⌝ }
 {
     Report {
         verdict: Verdict::Unknown,
@@ -64,22 +67,17 @@ fn give_up(line: usize, idle: usize) -> Report
         line,
         terms: 0,
         tried: 0,
-        idle,
+        idle: 0,
     }
 }
 
-// What the difference decides: equal where no term is left, else differs with the chosen bytes.
-fn settle(
-    r: Routine,
-    idle: usize,
-    d: Shelf,
-    left: &mut [u8],
-    right: &mut [u8],
-    list: &mut [u8],
-) -> Report
-    requires { ⌜ LastAsked r d (now left) (now right) × DecideAsked r idle (now list) ⌝ }
+// What the difference decides: equal where no term is left, else differs with the chosen bytes;
+// both with the number of idle inputs.
+fn settle(r: Routine, d: Shelf, left: &mut [u8], right: &mut [u8], list: &mut [u8]) -> Report
+    requires { ⌜ LastAsked r d (now left) (now right) × (listBytes ≤ length (now list)) ⌝ }
     ensures { λ a. ⌜ DifferenceDecided r (now (list .entry)) a (now (list .exit)) ⌝ }
 {
+    let idle = idle(r, d, left, right);
     let k = subtract(r, d, left, right);
     if k == 0 {
         return Report {
@@ -102,24 +100,18 @@ fn settle(
     }
 }
 
-// What comes of a routine with so many idle inputs.
-pub(crate) fn decide(
-    r: Routine,
-    idle: usize,
-    left: &mut [u8],
-    right: &mut [u8],
-    list: &mut [u8],
-) -> Report
-    requires { ⌜ Ready r × Lent (now left) (now right) × DecideAsked r idle (now list) ⌝ }
+// What comes of a routine.
+pub(crate) fn decide(r: Routine, left: &mut [u8], right: &mut [u8], list: &mut [u8]) -> Report
+    requires { ⌜ Ready r × Lent (now left) (now right) × (listBytes ≤ length (now list)) ⌝ }
     ensures { λ a. ⌜ RoutineDecided r (now (list .entry)) a (now (list .exit)) ⌝ }
 {
     let q = survey(r, left, right);
     if q.over {
-        return give_up(q.line, idle);
+        return give_up(q.line);
     }
     let d = q.shelf;
     if MOST_TERMS - d.top < difference_raw(r, d) {
-        return give_up(r.line, idle);
+        return give_up(r.line);
     }
-    settle(r, idle, d, left, right, list)
+    settle(r, d, left, right, list)
 }

@@ -16,3 +16,4 @@ pub mod Slots
 pub mod Put
 pub mod Pass
 pub mod Map
+pub mod Occurs

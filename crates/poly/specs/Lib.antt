@@ -3,4 +3,5 @@ pub mod Canon
 pub mod Value
 pub mod First
 pub mod Size
+pub mod Occurs
 pub mod Pass

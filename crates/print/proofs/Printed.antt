@@ -44,7 +44,7 @@ listed-bytes (equal i) l = unlisted l
 listed-bytes (differs n i bs) l =
     ap (λ (k : ℕ). take k (bs ++ drop (length bs) l)) (spent bs (drop (length bs) l))
     ∙ take-append-seam bs (drop (length bs) l)
-listed-bytes (unknown line i) l = unlisted l
+listed-bytes (unknown line) l = unlisted l
 
 -- one more byte
 step : (left b : ℕ) (bs : List ℕ) → listedCount (left - suc b) bs ≤ length bs

@@ -6,6 +6,7 @@ pub mod Count
 pub mod Steps
 pub mod Bytes
 pub mod Definition
+pub mod Idle
 pub mod Buffers
 pub mod Parts
 pub mod Turns

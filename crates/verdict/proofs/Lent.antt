@@ -45,7 +45,7 @@ unfolding report workAfter
 worked-unless (refused n l) w h = absurd (h refl)
 worked-unless (equal i) w h = refl
 worked-unless (differs n i bs) w h = refl
-worked-unless (unknown l i) w h = refl
+worked-unless (unknown l) w h = refl
 
 -- the byte list where nothing differs
 listed-unless : (o : Outcome) (l : List ℕ) → report o .verdict ≢ Differs → listAfter o l ≡ l
@@ -53,7 +53,7 @@ unfolding report listAfter
 listed-unless (refused n m) l h = refl
 listed-unless (equal i) l h = refl
 listed-unless (differs n i bs) l h = absurd (h refl)
-listed-unless (unknown m i) l h = refl
+listed-unless (unknown m) l h = refl
 
 -- the byte list where something does
 listed-behind : (r : Routine) → Formed r → (o : Outcome) → Claims r o → report o .verdict ≡ Differs → (l : List ℕ)
@@ -63,7 +63,7 @@ listed-behind r F (refused n m) c e l h = absurd c
 listed-behind r F (equal i) c e l h = let z : _≡_ {A = ℕ} 0 1 = cc in absurd (omega arith)
 listed-behind r F (differs n i bs) c e l h =
     kept-behind bs l (r .variables) (bytes-length (r .variables) bs (c .bytes)) (omega (arith, F .room))
-listed-behind r F (unknown m i) c e l h = let z : _≡_ {A = ℕ} 0 1 = cc in absurd (omega arith)
+listed-behind r F (unknown m) c e l h = let z : _≡_ {A = ℕ} 0 1 = cc in absurd (omega arith)
 
 module _ {text left right list : List ℕ} {a : Report} {left′ right′ list′ : List ℕ}
     (J : Judged text left right list a left′ right′ list′) where

@@ -1,5 +1,6 @@
 pub mod Laws
 pub mod Verdict
+pub mod Inputs
 pub mod Count
 pub mod Room
 pub mod Text

@@ -16,13 +16,20 @@ use Rattle.verdict.specs.declared.report.Verdict.the-variants.{Equal, Di
 use Rattle.verdict.specs.declared.report.Report.{Report}
 use Rattle.verdict.specs.Equivalent.{Equivalent}
 use Rattle.verdict.specs.Count.{stepAt}
-use Rattle.verdict.specs.Idle.{idle}
+use Rattle.verdict.specs.Idle.{IdleInputs, UnmovedInputs, idle}
 use Rattle.verdict.specs.Judge.{Outcome, refused, equal, differs, unknown, report, fronted, shortIn}
 use Rattle.verdict.specs.Judge.{workAfter, listAfter, cameOf, Judged}
 use Rattle.verdict.specs.Verdict.{placesOf, GivenUp, Decided, Equals, Differing, Unknowns, Claims, ClaimsIn}
 use Rattle.verdict.specs.Verdict.{Listed, RefusedAs}
 use Rattle.verdict.proofs.Laws.Bytes.{bytes-length}
+use Rattle.text.specs.Formed.{Formed}
+use Rattle.text.specs.Ranged.{Limited}
+use Rattle.text.proofs.Laws.Keeping.{Accepts}
+use Rattle.text.proofs.Laws.Formed.{read-formed}
+use Rattle.text.proofs.Laws.Limits.{read-limited}
 use Rattle.text.proofs.Laws.Refusing.{Numbered, read-numbered}
+use Rattle.verdict.proofs.Laws.Idle.{tally-unique, idle-counts}
+use Rattle.verdict.proofs.Inputs.{unmoved-counts}
 use Rattle.verdict.proofs.Text.{outcome-claims, outcome-only}
 
 -- ---- an outcome, by the verdict that it reports
@@ -42,7 +49,7 @@ module _ (r : Routine) where
   equal-told (refused n l) c e = absurd c
   equal-told (equal i) c e = c
   equal-told (differs n i bs) c e = let z : _≡_ {A = ℕ} 0 1 = cc in absurd (omega arith)
-  equal-told (unknown l i) c e = let z : _≡_ {A = ℕ} 0 1 = cc in absurd (omega arith)
+  equal-told (unknown l) c e = let z : _≡_ {A = ℕ} 0 1 = cc in absurd (omega arith)
 
   differs-told : (o : Outcome) → Claims r o → report o .verdict ≡ Differs → (list : List ℕ)
       → Listed r (report o) (take (r .variables) (listAfter o list))
@@ -52,14 +59,15 @@ module _ (r : Routine) where
   differs-told (differs n i bs) c e list =
       let front = take-at bs (drop (length bs) list) (r .variables) (bytes-length (r .variables) bs (c .bytes)) in
       (subst (Differing r n i) (sym front) c, ap tried (sym front))
-  differs-told (unknown l i) c e list = let z : _≡_ {A = ℕ} 0 1 = cc in absurd (omega arith)
+  differs-told (unknown l) c e list = let z : _≡_ {A = ℕ} 0 1 = cc in absurd (omega arith)
 
-  unknown-told : (o : Outcome) → Claims r o → report o .verdict ≡ Unknown → Unknowns r (report o .line) (report o .idle)
+  unknown-told : (o : Outcome) → Claims r o → report o .verdict ≡ Unknown
+      → Unknowns r (report o .line) × (report o .idle ≡ 0)
   unfolding report
   unknown-told (refused n l) c e = absurd c
   unknown-told (equal i) c e = let z : _≡_ {A = ℕ} 0 1 = cc in absurd (omega arith)
   unknown-told (differs n i bs) c e = let z : _≡_ {A = ℕ} 0 1 = cc in absurd (omega arith)
-  unknown-told (unknown l i) c e = c
+  unknown-told (unknown l) c e = (c, refl)
 
 -- a refusal has its number and line, and changes no buffer
 refused-told : (o : Outcome) (s : Bool) (g : Reading) → ClaimsIn s g o → report o .verdict ≡ Refused
@@ -72,7 +80,7 @@ refused-told (refused n l) false (Reading.refused m k) c e =
 refused-told (refused n l) false (Reading.accepted r) c e = absurd c
 refused-told (equal i) s g c e = let z : _≡_ {A = ℕ} 0 1 = cc in absurd (omega arith)
 refused-told (differs n i bs) s g c e = let z : _≡_ {A = ℕ} 0 1 = cc in absurd (omega arith)
-refused-told (unknown l i) s g c e = let z : _≡_ {A = ℕ} 0 1 = cc in absurd (omega arith)
+refused-told (unknown l) s g c e = let z : _≡_ {A = ℕ} 0 1 = cc in absurd (omega arith)
 
 -- 1 is no number of reading's
 one-told : (s : Bool) (o : Outcome) (g : Reading) → ClaimsIn s g o → Numbered g → report o .refusal ≡ 1
@@ -83,7 +91,7 @@ one-told false (refused n l) (Reading.refused m k) c h e = let d : n ≡ m = cc 
 one-told false (refused n l) (Reading.accepted r) c h e = absurd c
 one-told false (equal i) g c h e = absurd (omega arith)
 one-told false (differs n i bs) g c h e = absurd (omega arith)
-one-told false (unknown l i) g c h e = absurd (omega arith)
+one-told false (unknown l) g c h e = absurd (omega arith)
 
 -- the outcome that a number and a line claim
 refused-claims : (s : Bool) (g : Reading) (n l : ℕ) → RefusedAs s g n l → ClaimsIn s g (refused n l)
@@ -97,6 +105,16 @@ accepted-claims : (s : Bool) (g : Reading) (r : Routine) (o : Outcome) → s ≡
 accepted-claims s g r o e f c = rw (e, f) c
 
 -- ---- THEOREMS: what a report says
+
+-- one number alone counts the idle inputs of an accepted text
+idle-iff : (text : List ℕ) (r : Routine) {i : ℕ} → readText text ≡ accepted r → IdleInputs r i → (n : ℕ)
+    → UnmovedInputs r n ↔ (n ≡ i)
+idle-iff text r {i} e t n =
+    let F : Formed r = subst (Accepts Formed) e (read-formed text) in
+    let l : Limited r = subst (Accepts Limited) e (read-limited text) in (
+      λ s. tally-unique (unmoved-counts r F (l .some) n .1 s) t,
+      λ f. subst (UnmovedInputs r) (sym f) (unmoved-counts r F (l .some) i .0 t),
+    )
 
 module _ {text left right list : List ℕ} {a : Report} {left′ right′ list′ : List ℕ}
     (J : Judged text left right list a left′ right′ list′) where
@@ -129,14 +147,15 @@ module _ {text left right list : List ℕ} {a : Report} {left′ right′ list�
             (sym (J .listed)) (differs-told (t .0) (cameOf text left right list) (t .2) e list),
       ))
 
-  -- unknown: the line is that of the first place over the limit
+  -- unknown: the line is that of the first place over the limit, and idle is 0
   pub judged-unknown : a .verdict ≡ Unknown
-      → (r : Routine) × (readText text ≡ accepted r) × Unknowns r (a .line) (a .idle)
+      → (r : Routine) × (readText text ≡ accepted r) × Unknowns r (a .line) × (a .idle ≡ 0)
   judged-unknown =
       subst (λ (b : Report). b .verdict ≡ Unknown
-      → (r : Routine) × (readText text ≡ accepted r) × Unknowns r (b .line) (b .idle)) (sym (J .answered)) (λ e.
+      → (r : Routine) × (readText text ≡ accepted r) × Unknowns r (b .line) × (b .idle ≡ 0)) (sym (J .answered)) (λ e.
       let t = accepted-unless (λ k. let z : _≡_ {A = ℕ} 0 1 = cc in omega arith) in
-      (t .0, t .1, unknown-told (t .0) (cameOf text left right list) (t .2) e))
+      let u = unknown-told (t .0) (cameOf text left right list) (t .2) e in
+      (t .0, t .1, u .0, u .1))
 
   -- refused: 1 where a buffer is too short, else reading's number and line; no buffer is changed
   pub judged-refused : a .verdict ≡ Refused → RefusedAs (shortIn left right list) (readText text) (a .refusal) (a .line)
@@ -147,6 +166,13 @@ module _ {text left right list : List ℕ} {a : Report} {left′ right′ list�
       × (left′ ≡ left) × (right′ ≡ right) × (list′ ≡ list)) (sym (J .answered)) (λ e.
       let t = refused-told (cameOf text left right list) (shortIn left right list) (readText text) came-claims e in
       (t .0, J .worked ∙ t .1 left, J .helped ∙ t .1 right, J .listed ∙ t .2 list))
+
+  -- equal and differs: idle is the number of inputs for all values of which the original's result is the same, the
+  -- other inputs held fixed
+  pub judged-idle : (a .verdict ≡ Equal) ⊎ (a .verdict ≡ Differs)
+      → (r : Routine) × (readText text ≡ accepted r) × ((n : ℕ) → UnmovedInputs r n ↔ (n ≡ a .idle))
+  judged-idle (inl e) = let t = judged-equal e in (t .0, t .1, idle-iff text (t .0) (t .1) (t .2 .idled))
+  judged-idle (inr e) = let t = judged-differs e in (t .0, t .1, idle-iff text (t .0) (t .1) (t .2 .0 .idled))
 
   -- ---- THEOREMS: and exactly then
 
@@ -171,6 +197,10 @@ module _ {text left right list : List ℕ} {a : Report} {left′ right′ list�
   )
 
   module _ (r : Routine) (long : shortIn left right list ≡ false) (holds : readText text ≡ accepted r) where
+    -- the routine is well formed
+    formed : Formed r
+    formed = subst (Accepts Formed) holds (read-formed text)
+
     -- a decided text is equal exactly where Definition 1 holds
     pub judged-decided : Decided r → (a .verdict ≡ Equal) ↔ Equivalent r
     unfolding report
@@ -178,7 +208,7 @@ module _ {text left right list : List ℕ} {a : Report} {left′ right′ list�
       λ e. claimed (judged-equal e),
       λ h. ap (λ (b : Report). b .verdict) (judged-as (equal (idle r))
           (accepted-claims (shortIn left right list) (readText text) r _ long holds
-          (record { counted = d; equivalent = h; idled = refl }))),
+          (record { counted = d; equivalent = h; idled = idle-counts r formed }))),
     )
       where
         claimed : (s : Routine) × (readText text ≡ accepted s) × Equals s (a .idle) → Equivalent r
@@ -188,10 +218,10 @@ module _ {text left right list : List ℕ} {a : Report} {left′ right′ list�
     pub judged-answered : Decided r → (a .verdict ≡ Equal) ⊎ (a .verdict ≡ Differs)
     judged-answered d = go (a .verdict) refl
       where
-        over : (s : Routine) × (readText text ≡ accepted s) × Unknowns s (a .line) (a .idle) → ⊥
+        over : (s : Routine) × (readText text ≡ accepted s) × Unknowns s (a .line) × (a .idle ≡ 0) → ⊥
         over t =
-            let u : Unknowns r (a .line) (a .idle) =
-            subst (λ (s : Routine). Unknowns s (a .line) (a .idle)) (let e : t .0 ≡ r = cc in e) (t .2) in
+            let u : Unknowns r (a .line) =
+            subst (λ (s : Routine). Unknowns s (a .line)) (let e : t .0 ≡ r = cc in e) (t .2) in
             d (u .at) (u .given .inside) (u .given .over)
 
         none : RefusedAs (shortIn left right list) (readText text) (a .refusal) (a .line) → ⊥
@@ -204,8 +234,8 @@ module _ {text left right list : List ℕ} {a : Report} {left′ right′ list�
         go Refused e = absurd (none (judged-refused e .0))
 
     -- unknown is given exactly where the count passes the limit
-    pub judged-given-up : (at : ℕ) → GivenUp r at → a ≡ report (unknown (stepAt (placesOf r) at .line) (idle r))
+    pub judged-given-up : (at : ℕ) → GivenUp r at → a ≡ report (unknown (stepAt (placesOf r) at .line))
     judged-given-up at f =
-        judged-as (unknown (stepAt (placesOf r) at .line) (idle r))
+        judged-as (unknown (stepAt (placesOf r) at .line))
         (accepted-claims (shortIn left right list) (readText text) r _ long holds
-        (record { at = at; given = f; lined = refl; idled = refl }))
+        (record { at = at; given = f; lined = refl }))

@@ -1,5 +1,6 @@
--- Judge's outcome for an accepted text claims what holds, and no other outcome does. It turns on two facts: the reduced
--- difference has run's values, and a reduced polynomial with a term differs from zero somewhere.
+-- Judge's outcome for an accepted text claims what holds, and no other outcome does. It turns on three facts: the
+-- reduced difference has run's values, a reduced polynomial with a term differs from zero somewhere, and a variable on
+-- which its values do not depend does not occur in it.
 -- Assumes nothing.
 use mathlib.Core.Path.{_≡_, refl, sym, ap, _∙_, subst}
 use mathlib.Core.Logic.{_≢_, _↔_, _⊎_, inl, inr}
@@ -30,6 +31,7 @@ use Rattle.verdict.specs.Verdict.{placesOf, GivenUp, Decided, Agrees, Eq
 use Rattle.text.specs.Formed.{Formed}
 use Rattle.verdict.proofs.Laws.Value.{modulus-of, room-for, difference-value, difference-reduced}
 use Rattle.verdict.proofs.Laws.Bytes.{bytes-length}
+use Rattle.verdict.proofs.Laws.Idle.{tally-unique, idle-counts}
 use Rattle.verdict.proofs.Laws.Count.{over-found, over-none, first-one}
 use Rattle.verdict.proofs.Laws.Definition.{agrees-equivalent, equivalent-agrees}
 
@@ -40,11 +42,11 @@ line-none : (r : Routine) → unknownLine r (symbolic r) ≡ none → Decided r
 unfolding unknownLine placesOf
 line-none r e = over-none (mostTerms r) (standing r (steps r (symbolic r))) (steps r (symbolic r)) e
 
-line-some : (r : Routine) (line : ℕ) → unknownLine r (symbolic r) ≡ some line → Unknowns r line (idle r)
+line-some : (r : Routine) (line : ℕ) → unknownLine r (symbolic r) ≡ some line → Unknowns r line
 unfolding unknownLine placesOf
 line-some r line e =
     let f = over-found (mostTerms r) (standing r (steps r (symbolic r))) (steps r (symbolic r)) line e in
-    record { at = f .0; given = f .1; lined = f .2; idled = refl }
+    record { at = f .0; given = f .1; lined = f .2 }
 
 -- judge's outcome, by the count and the difference
 pub judge-settled : (r : Routine) → judgeRoutine r ≡ settled r (unknownLine r (symbolic r)) (difference r)
@@ -111,14 +113,18 @@ module _ (r : Routine) (F : Formed r) where
         bounded = bounded-all bs p (difference-reduced r F .0)
             (first-highest G L v n p (room-for F) (difference-reduced r F .0) s);
         termed = refl;
-        idled = refl;
+        idled = idle-counts r F;
       }
 
   -- ---- THEOREM: the outcome claims what holds
 
   decided-claims : Decided r → (p : Poly) → difference r ≡ p → Claims r (decided r p)
   unfolding decided
-  decided-claims d [] e = record { counted = d; equivalent = agrees-equivalent r F (none-agrees e); idled = refl }
+  decided-claims d [] e = record {
+    counted = d;
+    equivalent = agrees-equivalent r F (none-agrees e);
+    idled = idle-counts r F;
+  }
   decided-claims d (t ∷ p) e =
       subst (λ (q : Poly). Differing r (length q) (idle r) (firstDiffering (gf (modulusOf r)) (r .variables) q)) e
       (differing d (subst Some (sym e) tt))
@@ -157,32 +163,31 @@ module _ (r : Routine) (F : Formed r) where
   equal-differs : {i j n : ℕ} {bs : List ℕ} → Equals r i → Differing r n j bs → ⊥
   equal-differs {bs = bs} e d = d .differ (equivalent-agrees r F (e .equivalent) bs (d .bytes))
 
-  decided-unknown : {line i : ℕ} → Decided r → Unknowns r line i → ⊥
+  decided-unknown : {line : ℕ} → Decided r → Unknowns r line → ⊥
   decided-unknown d u = d (u .at) (u .given .inside) (u .given .over)
 
   -- two outcomes that claim what holds of a routine are the same
   pub claims-unique : (o p : Outcome) → Claims r o → Claims r p → o ≡ p
   claims-unique (refused n l) p h k = absurd h
   claims-unique (equal i) (refused n l) h k = absurd k
-  claims-unique (equal i) (equal j) h k = ap equal (h .idled ∙ sym (k .idled))
+  claims-unique (equal i) (equal j) h k = ap equal (tally-unique (h .idled) (k .idled))
   claims-unique (equal i) (differs n j bs) h k = absurd (equal-differs h k)
-  claims-unique (equal i) (unknown l j) h k = absurd (decided-unknown (h .counted) k)
+  claims-unique (equal i) (unknown l) h k = absurd (decided-unknown (h .counted) k)
   claims-unique (differs n i bs) (refused m l) h k = absurd k
   claims-unique (differs n i bs) (equal j) h k = absurd (equal-differs k h)
   claims-unique (differs n i bs) (differs m j cs) h k =
       let e : n ≡ m = h .termed ∙ sym (k .termed) in
-      let f : i ≡ j = h .idled ∙ sym (k .idled) in
+      let f : i ≡ j = tally-unique (h .idled) (k .idled) in
       let g : bs ≡ cs = first-same h (some-term h) ∙ sym (first-same k (some-term k)) in
       cc
-  claims-unique (differs n i bs) (unknown l j) h k = absurd (decided-unknown (h .counted) k)
-  claims-unique (unknown l i) (refused n m) h k = absurd k
-  claims-unique (unknown l i) (equal j) h k = absurd (decided-unknown (k .counted) h)
-  claims-unique (unknown l i) (differs n j bs) h k = absurd (decided-unknown (k .counted) h)
-  claims-unique (unknown l i) (unknown m j) h k =
+  claims-unique (differs n i bs) (unknown l) h k = absurd (decided-unknown (h .counted) k)
+  claims-unique (unknown l) (refused n m) h k = absurd k
+  claims-unique (unknown l) (equal j) h k = absurd (decided-unknown (k .counted) h)
+  claims-unique (unknown l) (differs n j bs) h k = absurd (decided-unknown (k .counted) h)
+  claims-unique (unknown l) (unknown m) h k =
       let e : h .at ≡ k .at =
       first-one (mostTerms r) (standing r (placesOf r)) (placesOf r) (h .at) (k .at) (h .given) (k .given) in
       let f : l ≡ m = sym (h .lined) ∙ ap (λ (a : ℕ). stepAt (placesOf r) a .line) e ∙ k .lined in
-      let g : i ≡ j = h .idled ∙ sym (k .idled) in
       cc
 
 -- ---- what follows

@@ -1,4 +1,4 @@
--- The starred examples ("Examples"): each text, and the line that is printed for it.
+-- The starred examples ("Examples") and those of M-102: each text, and the line that is printed for it.
 -- Assumes nothing.
 use Prim.Native.String.{String, _++_}
 use mathlib.Core.List.{List, [], _∷_}
@@ -81,6 +81,22 @@ e13 = (
   "equal\t0\t0\t0\t0\t1\n",
 )
 
--- E1 to E6, both of E8, E10, E11 and E13
+-- M-102: a, the only input, cancels in the original
+abbrev cancelled : Example
+cancelled = (
+  "shares\t1\ninput\ta\norigin\nxor\tc\ta\ta\nresult\tc\nmasked\nxor\td\ta.0\ta.0\noutput\td\n",
+  "equal\t0\t0\t0\t0\t1\n",
+)
+
+-- M-102: the second input multiplied by #00 in both blocks
+abbrev multiplied : Example
+multiplied = (
+  "shares\t2\ninput\ta\ninput\tb\norigin\nmul\tc\tb\t#00\nxor\td\ta\tc\nresult\td\nmasked\n"
+      ++ "mul\tc.0\tb.0\t#00\nmul\tc.1\tb.1\t#00\nxor\td.0\ta.0\tc.0\nxor\td.1\ta.1\tc.1\noutput\td.0\td.1\n",
+  "equal\t0\t0\t0\t0\t1\n",
+)
+
+-- E1 to E6, both of E8, E10, E11, E13 and both of M-102
 abbrev pub examples : List Example
-examples = e1 ∷ e2 ∷ e3 ∷ e4 ∷ e5 ∷ e6 ∷ e8 ∷ e8-other ∷ e10 ∷ e11 ∷ e13 ∷ []
+examples =
+    e1 ∷ e2 ∷ e3 ∷ e4 ∷ e5 ∷ e6 ∷ e8 ∷ e8-other ∷ e10 ∷ e11 ∷ e13 ∷ cancelled ∷ multiplied ∷ []

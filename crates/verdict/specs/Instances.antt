@@ -8,7 +8,7 @@ use Rattle.field.specs.Maps.{affine, coefficientsOf}
 use Rattle.poly.specs.Poly.{Poly, constant, variable, addPoly, mulPoly, mapPoly}
 use Rattle.text.specs.Read.{Routine}
 use Rattle.verdict.specs.Lists.{tabulate}
-use Rattle.verdict.specs.Meaning.{Algebra, Trace, trace, differenceIn}
+use Rattle.verdict.specs.Meaning.{Algebra, Trace, trace, resultIn, differenceIn}
 
 -- the low byte of the modulus, x^8+x^4+x^3+x+1 without its x^8
 abbrev pub lowByte : ℕ
@@ -51,6 +51,10 @@ polynomialsOf r = polynomials (modulusOf r) (powersOf r)
 -- all values of a routine as polynomials in its variables
 unfoldable pub symbolic : Routine → Trace Poly
 symbolic r = trace (polynomialsOf r) r (tabulate (r .variables) (variable (powersOf r)))
+
+-- the original's result as a reduced polynomial
+unfoldable pub reducedResult : Routine → Poly
+reducedResult r = resultIn (polynomialsOf r) r (symbolic r .origin)
 
 -- the reduced difference of the original's result and the joined outputs
 unfoldable pub difference : Routine → Poly

@@ -26,13 +26,13 @@ workBytes = 65280
 abbrev pub listBytes : ℕ
 listBytes = 16
 
--- what comes of a text: a refusal's number and line; or the idle inputs, with the difference's
--- terms and the chosen bytes where it has a term, or with the line at which it was given up
+-- what comes of a text: a refusal's number and line; the idle inputs, with the difference's terms
+-- and the chosen bytes where it has a term; or the line at which it was given up
 pub data Outcome : Type 0 where
   refused : ℕ → ℕ → Outcome
   equal : ℕ → Outcome
   differs : ℕ → ℕ → List ℕ → Outcome
-  unknown : ℕ → ℕ → Outcome
+  unknown : ℕ → Outcome
 
 -- what the difference decides: equal where no term is left; else its number of terms, and for each variable in order
 -- the smallest byte for which the difference still has a term when it is put in
@@ -42,7 +42,7 @@ decided r (t ∷ p) = differs (length (t ∷ p)) (idle r) (firstDiffering (gf (m
 
 -- unknown where a line is given up, else what the difference decides
 unfoldable pub settled : Routine → Option ℕ → Poly → Outcome
-settled r (some line) p = unknown line (idle r)
+settled r (some line) p = unknown line
 settled r none p = decided r p
 
 -- what comes of an accepted text
@@ -70,7 +70,7 @@ report (refused number line) =
     record { verdict = Refused; refusal = number; line = line; terms = 0; tried = 0; idle = 0 }
 report (equal i) = record { verdict = Equal; refusal = 0; line = 0; terms = 0; tried = 0; idle = i }
 report (differs n i bs) = record { verdict = Differs; refusal = 0; line = 0; terms = n; tried = tried bs; idle = i }
-report (unknown line i) = record { verdict = Unknown; refusal = 0; line = line; terms = 0; tried = 0; idle = i }
+report (unknown line) = record { verdict = Unknown; refusal = 0; line = line; terms = 0; tried = 0; idle = 0 }
 
 -- a buffer whose first n bytes are zero, the others as they were
 unfoldable pub zeroed : ℕ → List ℕ → List ℕ
@@ -85,14 +85,14 @@ unfoldable pub workAfter : Outcome → List ℕ → List ℕ
 workAfter (refused number line) w = w
 workAfter (equal i) w = zeroed workBytes w
 workAfter (differs n i bs) w = zeroed workBytes w
-workAfter (unknown line i) w = zeroed workBytes w
+workAfter (unknown line) w = zeroed workBytes w
 
 -- the byte list afterwards: the chosen bytes at its front with differs, else unchanged
 unfoldable pub listAfter : Outcome → List ℕ → List ℕ
 listAfter (refused number line) l = l
 listAfter (equal i) l = l
 listAfter (differs n i bs) l = fronted bs l
-listAfter (unknown line i) l = l
+listAfter (unknown line) l = l
 
 -- one of these buffers is too short
 abbrev pub shortIn : (left right list : List ℕ) → Bool

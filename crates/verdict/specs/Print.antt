@@ -41,7 +41,7 @@ unfoldable pub listedBytes : Outcome → List ℕ
 listedBytes (refused number line) = []
 listedBytes (equal i) = []
 listedBytes (differs n i bs) = bs
-listedBytes (unknown line i) = []
+listedBytes (unknown line) = []
 
 -- verdict, refusal, line, terms, tried and idle, then the listed bytes
 unfoldable pub printed : Outcome → List ℕ

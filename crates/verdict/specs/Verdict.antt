@@ -16,7 +16,7 @@ use Rattle.verdict.specs.Instances.{symbolic, difference}
 use Rattle.verdict.specs.Equivalent.{Equivalent}
 use Rattle.verdict.specs.Run.{resultAt, joinedAt}
 use Rattle.verdict.specs.Count.{Step, stepAt, steps, standing, mostTerms, Over, First}
-use Rattle.verdict.specs.Idle.{idle}
+use Rattle.verdict.specs.Idle.{IdleInputs}
 use Rattle.verdict.specs.Judge.{Outcome, refused, equal, differs, unknown, workBytes}
 
 -- the places that the count goes through
@@ -35,15 +35,15 @@ Decided r = (i : ℕ) → i < length (placesOf r) → Over (mostTerms r) (standi
 abbrev pub Agrees : Routine → Type 0
 Agrees r = (xs : List ℕ) → ByteList (r .variables) xs → resultAt r xs ≡ joinedAt r xs
 
--- equal: the count stays within the limit, and Definition 1 holds
+-- equal: the count stays within the limit, and Definition 1 holds; i inputs are idle
 pub record Equals (r : Routine) (i : ℕ) : Type 0 where
   pub counted : Decided r
   pub equivalent : Equivalent r
-  pub idled : i ≡ idle r
+  pub idled : IdleInputs r i
 
 -- differs: the count stays within the limit; run's two bytes differ on the listed
 -- bytes, and agree on all bytes that come before in dictionary order; each listed
--- byte is at most the highest power of its variable in the difference
+-- byte is at most the highest power of its variable in the difference; i inputs are idle
 pub record Differing (r : Routine) (terms i : ℕ) (bs : List ℕ) : Type 0 where
   pub counted : Decided r
   pub bytes : ByteList (r .variables) bs
@@ -51,7 +51,7 @@ pub record Differing (r : Routine) (terms i : ℕ) (bs : List ℕ) : Type 0 wher
   pub first : (xs : List ℕ) → ByteList (r .variables) xs → Before xs bs → resultAt r xs ≡ joinedAt r xs
   pub bounded : Within (highest (r .variables) (difference r)) bs
   pub termed : terms ≡ length (difference r)
-  pub idled : i ≡ idle r
+  pub idled : IdleInputs r i
 
 -- what a report of differs claims of the listed bytes: they are the first that differ, and tried is their sum plus
 -- their number
@@ -59,18 +59,17 @@ abbrev pub Listed : Routine → Report → List ℕ → Type 0
 Listed r a bs = Differing r (a .terms) (a .idle) bs × (a .tried ≡ sum bs + length bs)
 
 -- unknown: the line is that of the first place over the limit
-pub record Unknowns (r : Routine) (line i : ℕ) : Type 0 where
+pub record Unknowns (r : Routine) (line : ℕ) : Type 0 where
   pub at : ℕ
   pub given : GivenUp r at
   pub lined : stepAt (placesOf r) at .line ≡ line
-  pub idled : i ≡ idle r
 
 -- what an outcome claims of an accepted text; it is never refused
 abbrev pub Claims : Routine → Outcome → Type 0
 Claims r (refused number line) = ⊥
 Claims r (equal i) = Equals r i
 Claims r (differs n i bs) = Differing r n i bs
-Claims r (unknown line i) = Unknowns r line i
+Claims r (unknown line) = Unknowns r line
 
 -- what an outcome claims of a text, by what reading it gives: its refusal, or the claims on its routine
 abbrev pub ClaimsOf : Reading → Outcome → Type 0

@@ -1,5 +1,6 @@
 //! Writes what the program `vectors` reads, and the lines that it must print. Each line comes from
-//! the independent judge; where a text has a stored line, both must agree.
+//! the independent judge; where a text has a stored line, both must agree, apart from idle: the
+//! stored lines count the inputs that are not read.
 
 use bench_tests::examples::examples;
 use bench_tests::judge::judge;
@@ -15,6 +16,9 @@ const USAGE: &str = "usage: vectors --corpus FOLDER --out FOLDER";
 
 /// Longer texts of the corpus are left out: the limit of the length has its own cases.
 const LONGEST_STORED: u64 = 8_192;
+
+/// The place of idle among the fields of a line.
+const IDLE: usize = 5;
 
 /// A text with its name, and the line stored beside it.
 struct Case {
@@ -55,18 +59,22 @@ fn folders_of(words: Vec<String>) -> Option<Folders> {
     (words.len() == 4).then_some(Folders { corpus, out })
 }
 
-/// Writes both files; answers how many stored lines disagree with the judge.
+/// Writes both files; answers how many stored lines disagree with the judge in more than idle.
 fn write_all(folders: &Folders) -> io::Result<usize> {
     let mut cases = written_cases();
     for folder in ["gadgets", "damaged"] {
         cases.extend(stored_cases(&folders.corpus, folder)?);
     }
-    let (mut texts, mut printed, mut wrong) = (vec![], tables(), 0);
+    let (mut texts, mut printed) = (vec![], tables());
+    let (mut wrong, mut idle) = (0, 0);
     for case in &cases {
         let line = judge(&case.text).line();
-        if case.stored.as_ref().is_some_and(|stored| *stored != line) {
+        let stored = case.stored.as_ref().unwrap_or(&line);
+        if without_idle(stored) != without_idle(&line) {
             eprint!("{}: judged {line}", case.name);
             wrong += 1;
+        } else if *stored != line {
+            idle += 1;
         }
         let header = format!("{}\t{}\n", case.name, case.text.len());
         texts.extend_from_slice(header.as_bytes());
@@ -79,11 +87,20 @@ fn write_all(folders: &Folders) -> io::Result<usize> {
     fs::write(folders.out.join("stdout"), printed)?;
     let stored = cases.iter().filter(|case| case.stored.is_some()).count();
     println!(
-        "{} cases, {} bytes; {stored} stored lines, {wrong} of them disagree",
+        "{} cases, {} bytes; {stored} stored lines, {wrong} of them disagree, {idle} in idle alone",
         cases.len(),
         texts.len(),
     );
     Ok(wrong)
+}
+
+/// The fields of a line, apart from idle.
+fn without_idle(line: &str) -> Vec<&str> {
+    let mut fields: Vec<&str> = line.split('\t').collect();
+    if IDLE < fields.len() {
+        fields[IDLE] = fields[IDLE].trim_start_matches(|digit: char| digit.is_ascii_digit());
+    }
+    fields
 }
 
 /// The S-box, the examples, the limits and the faults.

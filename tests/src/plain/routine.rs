@@ -58,22 +58,6 @@ impl Routine {
         }
     }
 
-    /// The number of inputs that the origin block and the result do not read.
-    pub fn idle(&self) -> usize {
-        let reads = |op: &Op, input: usize| {
-            let is = |a: &Operand| matches!(a, Operand::Place(at) if *at == input);
-            match op {
-                Op::Set(a) | Op::App(_, a) => is(a),
-                Op::Xor(a, b) | Op::Mul(a, b) => is(a) || is(b),
-                Op::Rand(_) => false,
-            }
-        };
-        let block = &self.statements[..self.origin];
-        (0..self.inputs)
-            .filter(|i| self.result != *i && !block.iter().any(|s| reads(&s.op, *i)))
-            .count()
-    }
-
     /// The original's result and the XOR of the outputs, on one byte for each variable.
     pub fn run(&self, bytes: &[u8]) -> (u8, u8) {
         let mut origin = [0; 260];

@@ -81,6 +81,21 @@ impl<'a> Values<'a> {
         Ok((start, k))
     }
 
+    /// The number of inputs none of whose shares has a power in a term of the result; all values
+    /// are formed.
+    pub fn idle(&mut self) -> usize {
+        let routine = self.routine;
+        let size = self.load(self.place(routine.result, false), 0);
+        let terms = &self.right[..size * self.w];
+        let matters = |input: usize| {
+            let first = 1 + input * routine.shares;
+            let shares = first..first + routine.shares;
+            let mut all = terms.chunks_exact(self.w);
+            all.any(|t| t[shares.clone()].iter().any(|power| *power > 0))
+        };
+        (0..routine.inputs).filter(|input| !matters(*input)).count()
+    }
+
     /// Whether a place of this raw size exceeds the limit.
     fn check(&self, raw: usize, line: usize) -> Result<(), usize> {
         if self.top + raw > MOST_TERMS {

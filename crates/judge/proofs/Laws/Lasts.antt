@@ -23,6 +23,7 @@ use Rattle.text.specs.Formed.{Each, Formed}
 use Rattle.verdict.specs.Lists.{tabulate, poured}
 use Rattle.verdict.specs.Meaning.{operand, valueAt, resultIn, outputsIn, joinedIn, differenceIn}
 use Rattle.verdict.specs.Instances.{polynomials, polynomialsOf, modulusOf, powersOf, symbolic, difference}
+use Rattle.verdict.specs.Instances.{reducedResult}
 use Rattle.verdict.specs.Count.{lastStep}
 use Rattle.verdict.proofs.Laws.Lists.{each-at, each-tabulate}
 use Rattle.verdict.proofs.Laws.Closed.{masked-closed}
@@ -67,11 +68,11 @@ raw-masked r F =
 
 -- the difference is one sum of the terms of the result and of all outputs
 difference-terms : (r : Routine) → Formed r
-    → difference r ≡ normal (gf (modulusOf r)) (resultIn (polynomialsOf r) r (symbolic r .origin) ++ poured
-    (outputsIn (polynomialsOf r) r (symbolic r .masked)))
-unfolding difference differenceIn joinedIn outputsIn valueAt polynomialsOf polynomials
+    → difference r ≡ normal (gf (modulusOf r)) (reducedResult r ++ poured (outputsIn (polynomialsOf r) r
+    (symbolic r .masked)))
+unfolding difference differenceIn joinedIn outputsIn valueAt polynomialsOf polynomials reducedResult
 difference-terms r F =
-    difference-normal (modulusOf r) (powersOf r) (modulus-of r) (resultIn (polynomialsOf r) r (symbolic r .origin))
+    difference-normal (modulusOf r) (powersOf r) (modulus-of r) (reducedResult r)
     (outputsIn (polynomialsOf r) r (symbolic r .masked)) (canon-raw (result-reduced r F .0))
     (raw-places (powersOf r) (symbolic r .masked) (raw-masked r F) (r .outputs))
 
@@ -113,15 +114,15 @@ module _ {r : code.Routine} (Q : Ready r) {d : Shelf} {left : List ℕ} (S : Sta
 
   -- the result, among the values that stand
   result-at : getD (reach (termBytes r) left d (originScope r)) (r .result) []
-      ≡ resultIn (polynomialsOf (routineOf r)) (routineOf r) (symbolic (routineOf r) .origin)
-  unfolding routineOf resultIn valueAt polynomialsOf polynomials
+      ≡ reducedResult (routineOf r)
+  unfolding routineOf resultIn valueAt polynomialsOf polynomials reducedResult
   result-at =
       sym (getD-take (r .inputs + r .origin) (reach (termBytes r) left d (originScope r)) (r .result) [] result-inside)
       ∙ ap (λ (vs : List Poly). getD vs (r .result) []) (S .origin)
 
-  result-found : (a : Source) → Located (originScope r) d (Place (r .result)) a
-      → sourceOf (termBytes r) left a ≡ resultIn (polynomialsOf (routineOf r)) (routineOf r)
-      (symbolic (routineOf r) .origin)
+  -- it is found at its source
+  pub result-found : (a : Source) → Located (originScope r) d (Place (r .result)) a
+      → sourceOf (termBytes r) left a ≡ reducedResult (routineOf r)
   unfolding operand valueAt polynomials
   result-found a L = L .means modulus (termBytes r) left ∙ result-at
 
@@ -140,7 +141,7 @@ module _ {r : code.Routine} (Q : Ready r) {d : Shelf} {left : List ℕ} (S : Sta
   raw-by : (k j : ℕ) → OperandSized (originScope r) d (Place (r .result)) k
       → OutputsSized (r .outputs) (r .named) (maskedScope r) d j
       → k + j ≡ lastStep (routineOf r) (symbolic (routineOf r)) .raw
-  unfolding lastStep operand valueAt polynomials
+  unfolding lastStep operand valueAt polynomials reducedResult
   raw-by k j h g =
       ap₂ (λ (x y : ℕ). x + y) (h .means modulus (termBytes r) left ∙ ap length result-at)
       (g .means (termBytes r) left ∙ outputs-length)
@@ -148,7 +149,7 @@ module _ {r : code.Routine} (Q : Ready r) {d : Shelf} {left : List ℕ} (S : Sta
   module _ {a : Source} (L : Located (originScope r) d (Place (r .result)) a) where
     -- the raw size of the difference
     pub last-raw : sourceSize a + length outs ≡ lastStep (routineOf r) (symbolic (routineOf r)) .raw
-    unfolding lastStep
+    unfolding lastStep reducedResult
     last-raw =
         ap₂ (λ (x y : ℕ). x + y)
         (sym (source-length (termBytes r) left a) ∙ ap length (result-found a L)) outputs-length
@@ -178,8 +179,8 @@ module _ {r : code.Routine} (Q : Ready r) {d : Shelf} {left : List ℕ} (S : Sta
       narrow-term : termBytes r ≤ mostTermBytes
       narrow-term = omega (arith, Q .counted .room)
 
-      -- what `form_difference` asks
-      last-load : LoadAsked left a right 0 (termBytes r)
+      -- what loading the result asks, and then the outputs
+      pub last-load : LoadAsked left a right 0 (termBytes r)
       last-load = record {
         top = d .top;
         held = some-room (d .top) (omega arith);

@@ -88,7 +88,7 @@ abbrev lineOf : code.Routine → Option ℕ
 lineOf r = unknownLine (routineOf r) (symbolic (routineOf r))
 
 module _ (r : code.Routine) where
-  judge-unknown : (line : ℕ) → lineOf r ≡ some line → judgeRoutine (routineOf r) ≡ unknown line (idle (routineOf r))
+  judge-unknown : (line : ℕ) → lineOf r ≡ some line → judgeRoutine (routineOf r) ≡ unknown line
   unfolding settled
   judge-unknown line e = judge-settled (routineOf r)
       ∙ ap (λ (o : Option ℕ). settled (routineOf r) o (difference (routineOf r))) e
@@ -100,11 +100,11 @@ module _ (r : code.Routine) where
 
 module _ {r : code.Routine} where
   -- given up at a line
-  pub decided-unknown : {line i : ℕ} (list : List ℕ) {answer : Report} → lineOf r ≡ some line → i ≡ idle (routineOf r)
-      → answer ≡ report (unknown line i) → RoutineDecided r list answer list
+  pub decided-unknown : {line : ℕ} (list : List ℕ) {answer : Report} → lineOf r ≡ some line
+      → answer ≡ report (unknown line) → RoutineDecided r list answer list
   unfolding listAfter
-  decided-unknown {line} list e h a = record {
-    answered = a ∙ ap (λ (x : ℕ). report (unknown line x)) h ∙ ap report (sym (judge-unknown r line e));
+  decided-unknown {line} list e a = record {
+    answered = a ∙ ap report (sym (judge-unknown r line e));
     listed = ap (λ (o : Outcome). listAfter o list) (sym (judge-unknown r line e));
   }
 

@@ -4,9 +4,6 @@ use Rattle.judge.proofs.Laws.Judging.{cleared-front}
 use Rattle.judge.proofs.judge_routine.Statement.{statement}
 use Rattle.judge.proofs.judge_routine.Tie as tie
 
-idle-requires : tie.Need-idle-requires
-idle-requires c κs = search needs
-
 sub-decide : tie.Need-sub-decide
 sub-decide c = search needs
 
@@ -65,17 +62,17 @@ returns : tie.Need-returns
 returns c =
     let b = c .before .before .before .before .before .before .before .before in
     let a = b .before .before .before .before .before .before .before .before .before .before .before .before .before
-    .before .args in
+    .args in
     let p = b .before .before .before .before .before .before .before .before .before .before .before .before .before
-    .before .pre in
+    .pre in
     let decide = b .before .before .before .before .before .before .decide in
     let clear = c .before .before .before .before .before .before .clear in
     let clear2 = c .before .before .clear2 in
     record {
       decided = decide .ensures;
-      worked = cleared-front (a .n) (a .left .now) (decide .last .1 .1 .0) _ (p .first) (decide .kept .1 .1 .0)
+      worked = cleared-front (a .n) (a .left .now) (decide .last .1 .0) _ (p .first) (decide .kept .1 .0)
           (clear .ensures);
-      helped = cleared-front (a .n) (a .right .now) (decide .last .1 .1 .1 .0) _ (p .second) (decide .kept .1 .1 .1 .0)
+      helped = cleared-front (a .n) (a .right .now) (decide .last .1 .1 .0) _ (p .second) (decide .kept .1 .1 .0)
           (clear2 .ensures);
     }
 
@@ -83,7 +80,6 @@ pub judge-routine-spec : {M : Type 1} → statement M
 judge-routine-spec =
     tie.close
     (tie.spec
-    idle-requires
     sub-decide
     part-decide-start
     part-decide-end

@@ -26,11 +26,11 @@ use Rattle.text.specs.Read.{Routine}
 use Rattle.verdict.specs.Lists.{tabulate}
 use Rattle.verdict.specs.Meaning.{trace, resultIn, joinedIn}
 use Rattle.verdict.specs.Instances.{modulusOf, bytes, polynomials, powersOf, bytesOf, polynomialsOf, symbolic}
-use Rattle.verdict.specs.Instances.{difference}
+use Rattle.verdict.specs.Instances.{reducedResult, difference}
 use Rattle.verdict.specs.Run.{runValues, resultAt, joinedAt}
 use Rattle.text.specs.Formed.{Each, IsByte, FormedMap, Formed}
 use Rattle.verdict.proofs.Laws.Lists.{map-tabulate, each-at, each-tabulate}
-use Rattle.verdict.proofs.Laws.Meaning.{Homomorphism, difference-hom}
+use Rattle.verdict.proofs.Laws.Meaning.{Homomorphism, result-hom, difference-hom}
 use Rattle.verdict.proofs.Laws.Closed.{Closed, result-closed, difference-closed}
 
 -- ---- a map by its coefficients
@@ -145,6 +145,16 @@ module _ (r : Routine) (F : Formed r) where
       (trace (bytesOf r) r ys))
       (variables-value (modulus-of r) (powersOf r) (r .variables) (room-for F) xs h)
 
+  -- THEOREM: the reduced result has, on all bytes, the value of the original's result
+  pub result-value : (xs : List ℕ) → ByteList (r .variables) xs
+      → eval (gf (modulusOf r)) (reducedResult r) xs ≡ resultAt r xs
+  unfolding reducedResult symbolic resultAt runValues polynomialsOf bytesOf
+  result-value xs h =
+      result-hom (value-hom (modulus-of r) (powersOf r) (r .variables) xs h) r F
+      (tabulate (r .variables) (variable (powersOf r)))
+      ∙ ap (λ (ys : List ℕ). resultIn (bytesOf r) r (trace (bytesOf r) r ys .origin))
+      (variables-value (modulus-of r) (powersOf r) (r .variables) (room-for F) xs h)
+
   -- the operations on a routine's polynomials keep them reduced, and its variables are
   routine-closed : Closed (polynomialsOf r) (Reduced (r .variables) (powersOf r - r .variables) (powersOf r))
   unfolding polynomialsOf
@@ -168,9 +178,8 @@ module _ (r : Routine) (F : Formed r) where
   difference-reduced =
       difference-closed routine-closed r F (tabulate (r .variables) (variable (powersOf r))) variables-reduced
 
-  -- the original's result is reduced too
-  pub result-reduced : Reduced (r .variables) (powersOf r - r .variables) (powersOf r)
-      (resultIn (polynomialsOf r) r (symbolic r .origin))
-  unfolding symbolic
+  -- THEOREM: the original's result is reduced too
+  pub result-reduced : Reduced (r .variables) (powersOf r - r .variables) (powersOf r) (reducedResult r)
+  unfolding reducedResult symbolic
   result-reduced =
       result-closed routine-closed r F (tabulate (r .variables) (variable (powersOf r))) variables-reduced

@@ -1,70 +1,60 @@
--- The invariant: the idle ones among the first `i` inputs are counted. Assumes nothing.
-use Prim.Native.Nat.{ℕ, _≤_, _-_}
+-- `judge::idle::idle` meets its contract. The result is loaded, and its terms are looked through. Assumes nothing.
+use mathlib.Core.Path.{refl}
 use borrow.Author.Needs.{needs}
-use borrow.Author.Tests.{not-true, not-false}
-use mathlib.Core.Logic.{⊎-elim}
-use mathlib.Core.Path.{_≡_, ap, sym, _∙_}
-use native.Mathlib.Omega.{arith}
-use Rattle.text.specs.Routine.{routineOf}
-use Rattle.verdict.specs.Idle.{used, idle, failing}
-use Rattle.judge.proofs.Laws.Used.{failing-pass, failing-more}
+use Rattle.judge.proofs.Laws.Lasts.{origin-narrow-at, located-at}
+use Rattle.judge.proofs.Laws.Idling.{result-load, result-held, result-idle}
 use Rattle.judge.proofs.idle.idle.Statement.{statement}
 use Rattle.judge.proofs.idle.idle.Tie as tie
 
-abbrev Inv-loop : tie.InvT-loop
-Inv-loop r count₀ i₀ count i = (i ≤ r .inputs) × (count ≤ i) × (count ≡ failing i (used (routineOf r)))
+origin-scope-requires : tie.Need-origin-scope-requires
+origin-scope-requires c κs = search needs
 
-abbrev μ-loop : tie.MeasureT-loop
-μ-loop r count₀ i₀ count i = r .inputs - i
+place-requires : tie.Need-place-requires
+place-requires c κs =
+    let p = c .before .before .before .pre in
+    origin-narrow-at (p .ready) (p .standing .directed) (c .origin-scope .ensures) refl
 
-loop-holds : tie.Need-loop-holds Inv-loop μ-loop
-unfolding failing
-loop-holds c = search needs
+add-w : tie.Need-add-w
+add-w c = search needs
 
-used-requires : tie.Need-used-requires Inv-loop μ-loop
-used-requires c κs = search needs
+load-requires : tie.Need-load-requires
+load-requires c κs =
+    let s = c .before .before .before .before .before .before in
+    let origin-scope = c .before .before .before .origin-scope in
+    let place = c .before .before .place in
+    result-load (s .pre) (located-at (s .args .r) (s .args .d) _ _ (origin-scope .ensures) (place .ensures))
 
-add-count : tie.Need-add-count Inv-loop μ-loop
-add-count c = search needs
+size-of-requires : tie.Need-size-of-requires
+size-of-requires c κs = search needs
 
-add-i : tie.Need-add-i Inv-loop μ-loop
-add-i c = search needs
+count-idle-requires : tie.Need-count-idle-requires
+count-idle-requires c κs =
+    let s = c .before .before .before .before .before .before .before .before .before .before .before in
+    let origin-scope = c .before .before .before .before .before .before .before .before .origin-scope in
+    let place = c .before .before .before .before .before .before .before .place in
+    result-held (s .pre) (located-at (s .args .r) (s .args .d) _ _ (origin-scope .ensures) (place .ensures))
+    (c .size-of .ensures) (c .before .before .before .before .load .ensures)
 
-loop-less : tie.Need-loop-less Inv-loop μ-loop
-loop-less c = search needs
+same-length : tie.Need-same-length
+same-length c = search needs
 
-loop-again : tie.Need-loop-again Inv-loop μ-loop
-loop-again c =
-    let l = c .before .before .before .before .loop in
-    let test = used (routineOf (c .before .before .before .before .before .args .r)) in
-    ⊎-elim
-    (λ w.
-    let answer = sym (c .before .used .ensures) ∙ not-true _ (w .0 .taken) in
-    let next = failing-more (l .i) test answer in
-    (search needs, omega arith, omega (arith, next)))
-    (λ w.
-    let answer = sym (c .before .used .ensures) ∙ not-false _ (w .0 .left) in
-    let next = failing-pass (l .i) test answer in
-    (search needs, omega arith, omega (arith, next)))
-    (c .if2 .came)
-
-returns : tie.Need-returns Inv-loop μ-loop
-unfolding idle routineOf
+returns : tie.Need-returns
 returns c =
-    let l = c .before .before .loop in
-    let all : l .i ≡ c .before .before .before .args .r .inputs = omega arith in
-    l .inv .2 ∙ ap (λ (n : ℕ). failing n (used (routineOf (c .before .before .before .args .r)))) all
+    let s = c .before .before .before .before .before .before .before .before .before .before .before .before in
+    let origin-scope = c .before .before .before .before .before .before .before .before .before .origin-scope in
+    let place = c .before .before .before .before .before .before .before .before .place in
+    result-idle (s .pre) (located-at (s .args .r) (s .args .d) _ _ (origin-scope .ensures) (place .ensures))
+    (c .before .size-of .ensures) (c .before .before .before .before .before .load .ensures) (c .count-idle .ensures)
 
 pub idle-spec : {M : Type 1} → statement M
 idle-spec =
     tie.close
     (tie.spec
-    Inv-loop
-    μ-loop
-    loop-holds
-    used-requires
-    add-count
-    add-i
-    loop-less
-    loop-again
+    origin-scope-requires
+    place-requires
+    add-w
+    load-requires
+    size-of-requires
+    count-idle-requires
+    same-length
     returns)

@@ -24,7 +24,7 @@ returns c =
     let a = b .before .before .before .before .args in
     let p = b .before .before .before .before .pre in
     let survey = c .before .before .before .before .before .before .survey in
-    decided-unknown (a .list .now) (survey .ensures .given (c .before .if1 .taken)) (p .2 .idled)
+    decided-unknown (a .list .now) (survey .ensures .given (c .before .if1 .taken))
     (c .give-up .ensures)
 
 sub-if2 : tie.Need-sub-if2
@@ -60,7 +60,7 @@ returns-2 c =
     let difference-raw = c .before .before .difference-raw in
     let S = survey .ensures .stands (if1 .left) in
     decided-unknown (a .list .now)
-    (last-over S (difference-raw .ensures) (c .before .if2 .taken)) (p .2 .idled) (c .give-up2 .ensures)
+    (last-over S (difference-raw .ensures) (c .before .if2 .taken)) (c .give-up2 .ensures)
 
 settle-requires : tie.Need-settle-requires
 settle-requires c κs =
