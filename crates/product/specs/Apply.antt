@@ -5,7 +5,7 @@ use mathlib.Core.List.{List, []}
 use lib.ListN.{length, getD}
 use Rattle.field.specs.Field.{Modulus}
 use Rattle.field.specs.Laws.{gf}
-use Rattle.poly.specs.Poly.{Poly, constant, scale, into, square, mapPoly, unlessZero}
+use Rattle.poly.specs.Poly.{constant, scale, into, square, mapPoly, unlessZero}
 use Rattle.poly.specs.Canon.{Sorted, Raw}
 use Rattle.poly.specs.Size.{oneIf, nonzeros}
 use Rattle.buffer.specs.Buffer.{readTerms}

@@ -2,7 +2,7 @@
 -- made normal before it is inserted. So the factors of a product change places. Assumes nothing.
 use mathlib.Core.Path.{_≡_, refl, sym, ap, ap₂, _∙_, subst, subst⁻¹}
 use mathlib.Core.List.{List, [], _∷_, _++_}
-use Prim.Native.Nat.{ℕ, zero, suc, _+_, _<_, Ordering, Ordering·lt, Ordering·eq, Ordering·gt}
+use Prim.Native.Nat.{ℕ, zero, suc, _<_, Ordering, Ordering·lt, Ordering·eq, Ordering·gt}
 use native.Mathlib.Omega.{arith}
 use native.Mathlib.Nat.{zero-lt-suc, add-comm as nat-add-comm}
 use Rattle.field.specs.Laws.{Ops, Ring}
@@ -11,7 +11,7 @@ use Rattle.poly.specs.Poly.{mulPoly}
 use Rattle.poly.specs.Canon.{Coefs, Above, Sorted, Nonzero}
 use Rattle.field.proofs.Laws.Algebra.{zero-add}
 use Rattle.poly.proofs.Laws.Order.{order-self, order-same, order-gt, order-lt, order-trans}
-use Rattle.poly.proofs.Laws.Normal.{keep-above, insert-above, insert-sorted}
+use Rattle.poly.proofs.Laws.Normal.{keep-above, insert-above}
 use Rattle.poly.proofs.Laws.Sum.{into-sorted, into-append, into-none, normal-into}
 
 -- ---- no coefficient is zero

@@ -2,7 +2,7 @@
 -- pass. Assumes nothing.
 use mathlib.Core.Path.{_≡_, refl, ap, _∙_, subst}
 use mathlib.Core.List.{List, [], _∷_}
-use Prim.Native.Nat.{ℕ, _<_, Ordering, Ordering·lt, Ordering·eq, Ordering·gt}
+use Prim.Native.Nat.{ℕ, _<_, Ordering, Ordering·eq, Ordering·gt}
 use Rattle.field.specs.Laws.{Ops}
 use Rattle.poly.specs.Poly.{term, Poly, order, keep, place, insert, into}
 use Rattle.poly.specs.Canon.{Above, Sorted}

@@ -1,4 +1,4 @@
--- `poly::add::add_terms` meets its contract. The invariant: the terms of src from j on are inserted. Assumes nothing.
+-- `buffer::add::add_terms` meets its contract. The invariant: the terms of src from j on are inserted. Assumes nothing.
 use mathlib.Core.Path.{_≡_, refl, sym, ap, ap₂, _∙_, subst}
 use mathlib.Core.List.{List, _∷_}
 use Prim.Native.Nat.{ℕ, _+_, _*_, _-_, _≤_, _<_}

@@ -1,4 +1,4 @@
--- `poly::insert::find_place` meets its contract. The invariant: `Between`, halved in each turn. Assumes nothing.
+-- `buffer::insert::find_place` meets its contract. The invariant: `Between`, halved in each turn. Assumes nothing.
 use mathlib.Core.Path.{sym, _∙_}
 use Prim.Native.Nat.{_≤_, _<_, _+_, _*_, _-_, _/_}
 use native.Mathlib.Omega.{arith}

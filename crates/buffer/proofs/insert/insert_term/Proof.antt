@@ -1,4 +1,4 @@
--- `poly::insert::insert_term` meets its contract: one of four outcomes. Assumes nothing.
+-- `buffer::insert::insert_term` meets its contract: one of four outcomes. Assumes nothing.
 use mathlib.Core.Path.{sym, _∙_}
 use mathlib.Core.Logic.{⊎-elim}
 use Prim.Native.Nat.{suc, _+_, _*_, _≤_}

@@ -1,4 +1,4 @@
--- `poly::term::compare_powers` meets its contract. The invariant: from k on nothing differs. Assumes nothing.
+-- `buffer::term::compare_powers` meets its contract. The invariant: from k on nothing differs. Assumes nothing.
 use mathlib.Core.Path.{_≡_}
 use Prim.Native.Nat.{_≤_, Ordering·eq}
 use native.Mathlib.Omega.{arith}

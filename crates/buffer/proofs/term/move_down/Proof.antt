@@ -1,4 +1,4 @@
--- `poly::term::move_down` meets its contract. The invariant: the bytes up to j are moved. Assumes nothing.
+-- `buffer::term::move_down` meets its contract. The invariant: the bytes up to j are moved. Assumes nothing.
 use mathlib.Core.Path.{_≡_, subst}
 use Prim.Native.Nat.{ℕ, _≤_, _-_}
 use native.Mathlib.Omega.{arith}

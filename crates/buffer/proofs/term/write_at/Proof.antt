@@ -1,4 +1,4 @@
--- `poly::term::write_at` meets its contract. The invariant: the first j bytes are written. Assumes nothing.
+-- `buffer::term::write_at` meets its contract. The invariant: the first j bytes are written. Assumes nothing.
 use Prim.Native.Nat.{_≤_, _+_, _-_, zero-le}
 use native.Mathlib.Omega.{arith}
 use lib.ListN.{length, take}

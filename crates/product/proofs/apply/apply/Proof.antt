@@ -1,4 +1,4 @@
--- `poly::apply::apply` meets its contract. The invariant: `InApply`. Assumes nothing.
+-- `product::apply::apply` meets its contract. The invariant: `InApply`. Assumes nothing.
 use mathlib.Core.Path.{_≡_, sym, _∙_, subst}
 use native.Mathlib.Omega.{arith}
 use Prim.Native.Nat.{ℕ, _*_, _-_, _≤_, _<_}

@@ -1,4 +1,4 @@
--- `poly::apply::scaled_term` meets its contract. Assumes nothing.
+-- `product::apply::scaled_term` meets its contract. Assumes nothing.
 use mathlib.Core.Path.{ap, _∙_}
 use mathlib.Core.List.{List, _∷_}
 use Prim.Native.Nat.{ℕ}

@@ -1,4 +1,4 @@
--- `poly::apply::square_terms` meets its contract. The invariant: `InSquares`. Assumes nothing.
+-- `product::apply::square_terms` meets its contract. The invariant: `InSquares`. Assumes nothing.
 use native.Mathlib.Omega.{arith}
 use lib.ListN.{length}
 use Rattle.buffer.proofs.Lent.Strides.{Back}

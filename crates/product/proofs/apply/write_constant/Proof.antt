@@ -1,4 +1,4 @@
--- `poly::apply::write_constant` meets its contract. The invariant: `Cleared`. Assumes nothing.
+-- `product::apply::write_constant` meets its contract. The invariant: `Cleared`. Assumes nothing.
 use mathlib.Core.Path.{refl, sym, _∙_, subst}
 use native.Mathlib.Omega.{arith}
 use Prim.Native.Nat.{ℕ, _-_, _≤_, _<_}

@@ -1,4 +1,4 @@
--- `poly::product::power_sum` meets its contract. Assumes nothing.
+-- `product::product::power_sum` meets its contract. Assumes nothing.
 use mathlib.Core.Path.{_≡_, sym, _∙_}
 use native.Mathlib.Omega.{arith}
 use Prim.Native.Nat.{_+_, _-_}

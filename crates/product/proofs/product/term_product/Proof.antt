@@ -1,4 +1,4 @@
--- `poly::product::term_product` meets its contract. The invariant: `Begun`. Assumes nothing.
+-- `product::product::term_product` meets its contract. The invariant: `Begun`. Assumes nothing.
 use mathlib.Core.Path.{_≡_, _∙_}
 use native.Mathlib.Omega.{arith}
 use Prim.Native.Nat.{_-_, _≤_, _<_}

@@ -1,4 +1,4 @@
--- `poly::put::put` meets its contract. The invariant: `InPut`. Assumes nothing.
+-- `search::put::put` meets its contract. The invariant: `InPut`. Assumes nothing.
 use mathlib.Core.Path.{_≡_}
 use native.Mathlib.Omega.{arith}
 use Prim.Native.Nat.{_-_}

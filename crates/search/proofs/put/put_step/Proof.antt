@@ -1,4 +1,4 @@
--- `poly::put::put_step` meets its contract: the group goes on, ends at zero, or is written. Assumes nothing.
+-- `search::put::put_step` meets its contract: the group goes on, ends at zero, or is written. Assumes nothing.
 use mathlib.Core.Path.{sym, _∙_}
 use native.Mathlib.Omega.{arith}
 use native.Mathlib.Nat.{mul-le-mul-right}

@@ -1,4 +1,4 @@
--- `poly::put::same_group` meets its contract. Assumes nothing.
+-- `search::put::same_group` meets its contract. Assumes nothing.
 use native.Mathlib.Omega.{arith}
 use Prim.Native.Nat.{suc, _+_, _*_, _-_, _≤_, _<_}
 use lib.ListN.{length}

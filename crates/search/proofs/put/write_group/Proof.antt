@@ -1,4 +1,4 @@
--- `poly::put::write_group` meets its contract. Assumes nothing.
+-- `search::put::write_group` meets its contract. Assumes nothing.
 use native.Mathlib.Omega.{arith}
 use lib.ListN.{length-set}
 use Rattle.search.proofs.Lent.Groups.{group-written}

@@ -1,8 +1,9 @@
--- `poly::search::search` meets its contract. The invariants: `Finding` over the variables, `Trying` over the
+-- `search::search::search` meets its contract. The invariants: `Finding` over the variables, `Trying` over the
 -- bytes. Assumes nothing.
 use native.Mathlib.Omega.{arith}
 use Prim.Native.Nat.{_-_, _<_}
-use Rattle.search.proofs.Lent.Searching.{Trying, trying-start, trying-bound, trying-asks, trying-more, trying-less}
+use Rattle.search.proofs.Lent.Searching.{Trying, trying-start, trying-bound, trying-asks, trying-more}
+use Rattle.search.proofs.Lent.Searching.{trying-less}
 use Rattle.search.proofs.Lent.Searching.{Finding, finding-start, finding-more, finding-done}
 use Rattle.search.proofs.search.search.Statement.{statement}
 use Rattle.search.proofs.search.search.Tie as tie

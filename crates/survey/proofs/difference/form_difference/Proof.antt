@@ -1,4 +1,4 @@
--- `judge::difference::form_difference` meets its contract. The terms of the result and of all outputs inserted among
+-- `survey::difference::form_difference` meets its contract. The terms of the result and of all outputs inserted among
 -- none. Assumes nothing.
 use borrow.Author.Needs.{needs}
 use Rattle.survey.proofs.Laws.Outputs.{outputs-asked, difference-asked, difference-formed}

@@ -1,4 +1,4 @@
--- `judge::difference::load_outputs` meets its contract. The invariant: the first i outputs are laid. Assumes nothing.
+-- `survey::difference::load_outputs` meets its contract. The invariant: the first i outputs are laid. Assumes nothing.
 use mathlib.Core.Path.{subst, _≡_}
 use borrow.Author.Needs.{needs}
 use native.Mathlib.Omega.{arith}

@@ -1,4 +1,4 @@
--- `judge::survey::survey` meets its contract. Given up in the origin block, or as the masked block is. Assumes nothing.
+-- `survey::survey::survey` meets its contract. Given up in the origin block, or as the masked block is. Assumes nothing.
 use borrow.Author.Needs.{needs}
 use Rattle.survey.proofs.Laws.Asking.{block-asked, lent-kept}
 use Rattle.survey.proofs.Laws.Surveys.{surveyed-first, origin-begun, surveyed}

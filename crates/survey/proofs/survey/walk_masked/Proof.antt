@@ -1,4 +1,4 @@
--- `judge::survey::walk_masked` meets its contract. What the walk asks holds of an accepted text. Assumes nothing.
+-- `survey::survey::walk_masked` meets its contract. What the walk asks holds of an accepted text. Assumes nothing.
 use borrow.Author.Needs.{needs}
 use Rattle.survey.proofs.Laws.Asking.{masked-asked, masked-walked}
 use Rattle.survey.proofs.survey.walk_masked.Statement.{statement}

@@ -1,4 +1,4 @@
--- `judge::survey::walk_origin` meets its contract. What the walk asks holds of an accepted text. Assumes nothing.
+-- `survey::survey::walk_origin` meets its contract. What the walk asks holds of an accepted text. Assumes nothing.
 use borrow.Author.Needs.{needs}
 use Rattle.survey.proofs.Laws.Asking.{origin-asked, origin-walked}
 use Rattle.survey.proofs.survey.walk_origin.Statement.{statement}

@@ -1,4 +1,4 @@
--- `judge::table::clear` meets its contract. The invariant: the bytes below i are 0. Assumes nothing.
+-- `survey::table::clear` meets its contract. The invariant: the bytes below i are 0. Assumes nothing.
 use borrow.Author.Needs.{needs}
 use native.Mathlib.Omega.{arith}
 use Prim.Native.Nat.{_-_}

@@ -1,4 +1,4 @@
--- `judge::table::list_constants` meets its contract. The invariant: the maps below f are listed. Assumes nothing.
+-- `survey::table::list_constants` meets its contract. The invariant: the maps below f are listed. Assumes nothing.
 use mathlib.Core.Path.{subst, _≡_, ap}
 use borrow.Author.Needs.{needs}
 use native.Mathlib.Omega.{arith}

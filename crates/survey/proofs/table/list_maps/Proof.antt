@@ -1,4 +1,4 @@
--- `judge::table::list_maps` meets its contract. The invariant: the maps below f are listed. Assumes nothing.
+-- `survey::table::list_maps` meets its contract. The invariant: the maps below f are listed. Assumes nothing.
 use mathlib.Core.Path.{subst, _≡_, ap, _∙_}
 use borrow.Author.Needs.{needs}
 use native.Mathlib.Omega.{arith}

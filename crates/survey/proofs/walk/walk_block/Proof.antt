@@ -1,4 +1,4 @@
--- `judge::walk::walk_block` meets its contract. The invariant: `Holds`, and right keeps its length. Assumes nothing.
+-- `survey::walk::walk_block` meets its contract. The invariant: `Holds`, and right keeps its length. Assumes nothing.
 use lib.ListN.{length-map, length}
 use mathlib.Core.Path.{subst, _≡_, refl, sym, _∙_}
 use borrow.Author.Needs.{needs}

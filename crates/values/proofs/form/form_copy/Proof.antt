@@ -1,4 +1,4 @@
--- `judge::form::form_copy` meets its contract. Laid in right, then in left. Assumes nothing.
+-- `values::form::form_copy` meets its contract. Laid in right, then in left. Assumes nothing.
 use borrow.Author.Needs.{needs}
 use Rattle.values.proofs.Laws.Forming.{copy-asked, copy-formed}
 use Rattle.values.proofs.form.form_copy.Statement.{statement}

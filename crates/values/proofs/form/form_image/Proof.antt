@@ -1,4 +1,4 @@
--- `judge::form::form_image` meets its contract. The map of what was loaded. Assumes nothing.
+-- `values::form::form_image` meets its contract. The map of what was loaded. Assumes nothing.
 use lib.ListN.{replicate, take}
 use native.Mathlib.Omega.{arith}
 use Prim.Native.Nat.{ℕ, _-_}

@@ -1,4 +1,4 @@
--- `judge::form::form_product` meets its contract. The lent parts of right are the two operands. Assumes nothing.
+-- `values::form::form_product` meets its contract. The lent parts of right are the two operands. Assumes nothing.
 use lib.ListN.{replicate, take}
 use native.Mathlib.Omega.{arith}
 use Prim.Native.Nat.{ℕ, _-_}

@@ -1,4 +1,4 @@
--- `judge::form::form_sum` meets its contract. The operands' terms inserted among none are the sum. Assumes nothing.
+-- `values::form::form_sum` meets its contract. The operands' terms inserted among none are the sum. Assumes nothing.
 use native.Mathlib.Omega.{arith}
 use borrow.Author.Needs.{needs}
 use Rattle.values.proofs.Laws.Forming.{pair-small, sum-asked, sum-formed}

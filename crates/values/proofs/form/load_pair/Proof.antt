@@ -1,4 +1,4 @@
--- `judge::form::load_pair` meets its contract. The second load leaves the first. Assumes nothing.
+-- `values::form::load_pair` meets its contract. The second load leaves the first. Assumes nothing.
 use mathlib.Core.Path.{subst, sym}
 use Prim.Native.Nat.{ℕ}
 use borrow.Author.Needs.{needs}

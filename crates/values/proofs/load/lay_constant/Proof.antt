@@ -1,4 +1,4 @@
--- `judge::load::lay_constant` meets its contract. No term for 0, else a row with the constant in front. Assumes
+-- `values::load::lay_constant` meets its contract. No term for 0, else a row with the constant in front. Assumes
 -- nothing.
 use borrow.Author.Needs.{needs}
 use Rattle.values.proofs.Laws.Laying.{lay-constant-law, lay-nothing-law, constant-room}

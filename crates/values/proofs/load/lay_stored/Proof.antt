@@ -1,4 +1,4 @@
--- `judge::load::lay_stored` meets its contract. Bytes written are terms laid. Assumes nothing.
+-- `values::load::lay_stored` meets its contract. Bytes written are terms laid. Assumes nothing.
 use borrow.Author.Needs.{needs}
 use Rattle.values.proofs.Laws.Laying.{lay-stored-law}
 use Rattle.values.proofs.load.lay_stored.Statement.{statement}

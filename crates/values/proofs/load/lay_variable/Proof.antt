@@ -1,4 +1,4 @@
--- `judge::load::lay_variable` meets its contract. A row of zeros with two ones, written as one term. Assumes nothing.
+-- `values::load::lay_variable` meets its contract. A row of zeros with two ones, written as one term. Assumes nothing.
 use borrow.Author.Needs.{needs}
 use Rattle.values.proofs.Laws.Laying.{lay-variable-law}
 use Rattle.values.proofs.load.lay_variable.Statement.{statement}

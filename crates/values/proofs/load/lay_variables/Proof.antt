@@ -1,4 +1,4 @@
--- `judge::load::lay_variables` meets its contract. The invariant: the first j variables are laid. Assumes nothing.
+-- `values::load::lay_variables` meets its contract. The invariant: the first j variables are laid. Assumes nothing.
 use mathlib.Core.Path.{subst, _≡_}
 use borrow.Author.Needs.{needs}
 use native.Mathlib.Omega.{arith}

@@ -1,4 +1,4 @@
--- `judge::load::load` meets its contract. Each arm: what it asks and what it leaves, Laws/Loading. Assumes nothing.
+-- `values::load::load` meets its contract. Each arm: what it asks and what it leaves, Laws/Loading. Assumes nothing.
 use borrow.Author.Needs.{needs}
 use Rattle.values.proofs.Laws.Loading.{constant-asked, variables-asked, stored-asked, constant-loaded}
 use Rattle.values.proofs.Laws.Loading.{variables-loaded, stored-loaded}

@@ -1,4 +1,4 @@
--- `judge::raw::count_nonzero` meets its contract. The invariant: those from j on are counted. Assumes nothing.
+-- `values::raw::count_nonzero` meets its contract. The invariant: those from j on are counted. Assumes nothing.
 use borrow.Author.Needs.{needs}
 use native.Mathlib.Omega.{arith}
 use Prim.Native.Nat.{ℕ, _≤_, _-_}

@@ -1,4 +1,4 @@
--- `judge::raw::image_size` meets its contract. With and without a constant. Assumes nothing.
+-- `values::raw::image_size` meets its contract. With and without a constant. Assumes nothing.
 use native.Mathlib.Omega.{arith}
 use Prim.Native.Nat.{ℕ, _+_, _*_}
 use mathlib.Core.Path.{ap, _∙_}

@@ -1,4 +1,4 @@
--- `judge::raw::operand_size` meets its contract. The size of what is found. Assumes nothing.
+-- `values::raw::operand_size` meets its contract. The size of what is found. Assumes nothing.
 use Rattle.values.proofs.Laws.Sizes.{operand-sized}
 use Rattle.values.proofs.raw.operand_size.Statement.{statement}
 use Rattle.values.proofs.raw.operand_size.Tie as tie

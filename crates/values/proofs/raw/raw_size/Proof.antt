@@ -1,4 +1,4 @@
--- `judge::raw::raw_size` meets its contract. Each arm by its law of Laws/Sizes. Assumes nothing.
+-- `values::raw::raw_size` meets its contract. Each arm by its law of Laws/Sizes. Assumes nothing.
 use native.Mathlib.Omega.{arith}
 use borrow.Author.Needs.{needs}
 use Rattle.values.proofs.Laws.Sizes.{product-small, set-sized, xor-sized, mul-sized, app-place, app-sized}

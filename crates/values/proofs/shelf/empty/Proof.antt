@@ -1,4 +1,4 @@
--- `judge::shelf::empty` meets its contract. No value stands: by computing. Assumes nothing.
+-- `values::shelf::empty` meets its contract. No value stands: by computing. Assumes nothing.
 use borrow.Author.Needs.{needs}
 use Rattle.values.specs.Shelf.{bare}
 use Rattle.values.proofs.shelf.empty.Statement.{statement}

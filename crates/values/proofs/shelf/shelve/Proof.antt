@@ -1,4 +1,4 @@
--- `judge::shelf::shelve` meets its contract. Two stores and two numbers: by computing. Assumes nothing.
+-- `values::shelf::shelve` meets its contract. Two stores and two numbers: by computing. Assumes nothing.
 use borrow.Author.Needs.{needs}
 use Rattle.values.specs.Shelf.{shelved}
 use Rattle.values.proofs.shelf.shelve.Statement.{statement}

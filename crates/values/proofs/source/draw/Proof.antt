@@ -1,4 +1,4 @@
--- `judge::source::draw` meets its contract. Both ways out by their law. Assumes nothing.
+-- `values::source::draw` meets its contract. Both ways out by their law. Assumes nothing.
 use native.Mathlib.Omega.{arith}
 use Rattle.values.proofs.Laws.Sources.{drawn-variable, drawn-nothing}
 use Rattle.values.proofs.source.draw.Statement.{statement}

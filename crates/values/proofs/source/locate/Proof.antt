@@ -1,4 +1,4 @@
--- `judge::source::locate` meets its contract. Both arms by their law. Assumes nothing.
+-- `values::source::locate` meets its contract. Both arms by their law. Assumes nothing.
 use mathlib.Core.Path.{subst, sym}
 use borrow.Author.Needs.{needs}
 use Rattle.text.specs.declared.types.Operand.{Operand}

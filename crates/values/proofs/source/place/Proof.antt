@@ -1,4 +1,4 @@
--- `judge::source::place` meets its contract. Three ways out, each a law of Laws/Sources. Assumes nothing.
+-- `values::source::place` meets its contract. Three ways out, each a law of Laws/Sources. Assumes nothing.
 use native.Mathlib.Omega.{arith}
 use borrow.Author.Needs.{needs}
 use Rattle.values.proofs.Laws.Sources.{variable-fits, located-variables, located-nothing, located-stored}

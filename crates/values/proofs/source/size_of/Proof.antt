@@ -1,4 +1,4 @@
--- `judge::source::size_of` meets its contract. Each arm by computing. Assumes nothing.
+-- `values::source::size_of` meets its contract. Each arm by computing. Assumes nothing.
 use borrow.Author.Needs.{needs}
 use Rattle.values.specs.Source.{sourceSize}
 use Rattle.values.proofs.Laws.Sources.{one-term}

@@ -1,4 +1,4 @@
--- `judge::value::form_value` meets its contract. Each arm by its two laws of Laws/Values. Assumes nothing.
+-- `values::value::form_value` meets its contract. Each arm by its two laws of Laws/Values. Assumes nothing.
 use borrow.Author.Needs.{needs}
 use Rattle.values.proofs.Laws.Values.{set-asked, rand-asked, xor-asked, mul-asked, app-asked, set-formed}
 use Rattle.values.proofs.Laws.Values.{rand-formed, xor-formed, mul-formed, app-formed, asked-at}

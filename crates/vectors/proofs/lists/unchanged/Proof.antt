@@ -1,6 +1,6 @@
 -- `vectors::lists::unchanged` meets its contract. Assumes nothing.
 use borrow.Author.Needs.{needs}
-use Prim.Native.Nat.{_≤_, _+_, _-_}
+use Prim.Native.Nat.{_≤_, _-_}
 use lib.ListN.{length}
 use Rattle.vectors.proofs.lists.unchanged.Statement.{statement}
 use Rattle.vectors.proofs.lists.unchanged.Tie as tie

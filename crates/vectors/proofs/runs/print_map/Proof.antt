@@ -1,7 +1,6 @@
 -- `vectors::runs::print_map` meets its contract. Assumes nothing.
 use borrow.Author.Needs.{needs}
-use Prim.Native.Nat.{_≤_, _+_, _-_}
-use lib.ListN.{length}
+use Prim.Native.Nat.{_≤_, _-_}
 use Rattle.vectors.proofs.runs.print_map.Statement.{statement}
 use Rattle.vectors.proofs.runs.print_map.Tie as tie
 
