@@ -10,5 +10,6 @@ pub mod Sums
 pub mod Maps
 pub mod Duals
 pub mod Pairing
+pub mod Squares
 pub mod Steps
 pub mod Field

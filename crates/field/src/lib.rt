@@ -93,6 +93,31 @@ fn dual(m: u8, i: usize) -> u8
     if m == 29 { DUAL_1D[i] } else { DUAL_1B[i] }
 }
 
+// The dual bytes for the modulus 1b, squared 0, 1, .. 7 times: eight bytes for each.
+const SQUARED_1B: [[u8; 8]; 8] = [
+    [41, 176, 88, 5, 166, 83, 164, 82],
+    [45, 237, 240, 17, 226, 181, 230, 180],
+    [61, 12, 70, 26, 89, 252, 73, 253],
+    [38, 80, 191, 95, 241, 22, 234, 23],
+    [120, 176, 184, 229, 71, 15, 25, 14],
+    [156, 237, 173, 76, 190, 85, 90, 84],
+    [209, 12, 167, 251, 185, 161, 244, 160],
+    [43, 80, 227, 3, 172, 247, 86, 246],
+];
+
+// The dual byte of 2 to the power i, squared j times.
+fn dual_squared(m: u8, i: usize, j: usize) -> u8
+    requires { ⌜ i < 8 ⌝ }
+    ensures { λ r. ⌜ r ≡ squared (times m) j (getD (dualOf m) i 0) ⌝ }
+{
+    if m == 27 {
+        if j < 8 {
+            return SQUARED_1B[j][i];
+        }
+    }
+    squares(m, dual(m, i), j)
+}
+
 // a squared j times.
 pub fn squares(m: u8, a: u8, j: usize) -> u8
     ensures { λ r. ⌜ r ≡ squared (times m) j a ⌝ }
@@ -113,7 +138,7 @@ pub fn coefficient(m: u8, columns: [u8; 8], j: usize) -> u8
     let mut sum: u8 = 0;
     let mut i: usize = 0;
     while i < 8 {
-        sum = times(m, columns[i], squares(m, dual(m, i), j)) ^ sum;
+        sum = times(m, columns[i], dual_squared(m, i, j)) ^ sum;
         i += 1;
     }
     sum

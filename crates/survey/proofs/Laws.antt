@@ -1,3 +1,4 @@
+pub mod Steps
 pub mod Walks
 pub mod Counting
 pub mod Beginnings

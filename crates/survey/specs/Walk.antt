@@ -57,7 +57,9 @@ pub record WalkAsked (m : ℕ) (lists : List (List ℕ)) (constants : List ℕ) 
     (statements : List Statement) (from to : ℕ)
     (s : Scope) (d : Shelf) (left right : List ℕ) (w most : ℕ) : Type 0 where
   pub sized : SizeAsked s d
-  pub work : Workable m s left right w
+  pub work : Workable m left right w
+  pub wide : s .begins * s .width < w
+  pub drawn : s .drawn < w
   pub tabled : Tabled m maps lists constants
   pub ordered : from ≤ to
   pub inside : to ≤ 256

@@ -1,9 +1,9 @@
 // The maps' coefficients and constants as tables, and buffers cleared.
 use text::types::AffineMap;
 ghost use mathlib.Core.Path.{_≡_};
-ghost use mathlib.Core.List.{[]};
-ghost use Prim.Native.Nat.{ℕ, _≤_, _<_};
-ghost use lib.ListN.{take, getD, length, replicate};
+ghost use Prim.Native.Nat.{_≤_, _<_};
+ghost use lib.ListN.{take, length, replicate};
+ghost use Rattle.field.specs.Field.{Modulus};
 ghost use Rattle.field.specs.Maps.{coefficientsOf};
 ghost use Rattle.verdict.specs.Meaning.{mapAt};
 ghost use Rattle.survey.specs.Table.{Listed, Constants};
@@ -23,18 +23,29 @@ pub fn map_at(maps: [AffineMap; 8], count: usize, f: usize) -> AffineMap
     }
 }
 
+// The eight coefficients of the map at a place; past the last they are 0.
+fn list_map(m: u8, maps: [AffineMap; 8], count: usize, f: usize) -> [u8; 8]
+    requires { ⌜ Modulus m × (count ≤ 8) ⌝ }
+    ensures { λ row. ⌜ row ≡ coefficientsOf m (mapAt (take count maps) f .columns) ⌝ }
+{
+    if f < count {
+        let map = maps[f];
+        let columns = map.columns;
+        return field::coefficients(m, columns);
+    }
+    [0; 8]
+}
+
 // The eight coefficients of each of eight maps.
 pub fn list_maps(m: u8, maps: [AffineMap; 8], count: usize) -> [[u8; 8]; 8]
-    requires { ⌜ count ≤ 8 ⌝ }
+    requires { ⌜ Modulus m × (count ≤ 8) ⌝ }
     ensures { λ lists. ⌜ Listed m (take count maps) lists 8 ⌝ }
 {
     let mut lists = [[0u8; 8]; 8];
     let mut f = 0;
     // the maps below f are listed
     while f < 8 {
-        let map = map_at(maps, count, f);
-        let columns = map.columns;
-        let row = field::coefficients(m, columns);
+        let row = list_map(m, maps, count, f);
         lists[f] = row;
         f += 1;
     }

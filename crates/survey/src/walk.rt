@@ -1,13 +1,18 @@
 // A block of statements walked from the top: each value is formed above the others, unless what
 // stands and the raw size exceed the limit.
+use crate::survey::MODULUS;
+use crate::survey::MOST_TERMS;
 use text::routine::Routine;
+use values::found::find;
 use values::raw::raw_size;
 use values::shelf::Shelf;
-use values::shelf::shelve;
 use values::source::Scope;
 use values::value::form_value;
+ghost use mathlib.Core.Path.{_≡_};
 ghost use Rattle.text.specs.Routine.{mapsOf};
+ghost use Rattle.values.specs.Raw.{mostStanding};
 ghost use Rattle.survey.specs.Walk.{WalkAsked, Walked};
+ghost use Rattle.survey.specs.Survey.{modulus};
 
 // Whether the limit was exceeded, with the line; and the directory of the values that stand.
 pub struct Walk {
@@ -17,9 +22,8 @@ pub struct Walk {
 }
 
 // Walks the statements from..to; stops at the first at which what stands and the raw size exceed
-// `most` terms.
+// the limit.
 pub fn walk_block(
-    m: u8,
     lists: [[u8; 8]; 8],
     constants: [u8; 8],
     r: Routine,
@@ -30,12 +34,11 @@ pub fn walk_block(
     left: &mut [u8],
     right: &mut [u8],
     w: usize,
-    most: usize,
 ) -> Walk
-    requires { ⌜ WalkAsked m lists constants (mapsOf r) (r .statements) from to s d
-        (now left) (now right) w most ⌝ }
-    ensures { λ q. ⌜ Walked m (mapsOf r) (r .statements) from to s d
-        (now (left .entry)) w most (now (left .exit)) q ⌝ }
+    requires { ⌜ WalkAsked modulus lists constants (mapsOf r) (r .statements) from to s d
+        (now left) (now right) w mostStanding ⌝ }
+    ensures { λ q. ⌜ Walked modulus (mapsOf r) (r .statements) from to s d
+        (now (left .entry)) w mostStanding (now (left .exit)) q ⌝ }
 {
     let mut shelf = d;
     let mut i = from;
@@ -43,22 +46,26 @@ pub fn walk_block(
     while i < to {
         let statement = r.statements[i];
         let op = statement.op;
-        let raw = raw_size(lists, constants, s, shelf, op);
-        if most - shelf.top < raw {
-            return Walk {
-                over: true,
-                line: statement.line,
-                shelf,
-            };
+        let found = find(s, shelf, op);
+        let raw = raw_size(lists, constants, found);
+        let top = shelf.top;
+        if MOST_TERMS - top < raw {
+            return ended(true, statement.line, shelf);
         }
-        let k = form_value(m, lists, constants, s, shelf, op, left, right, w);
-        let next = shelve(shelf, k);
-        shelf = next;
+        let k = form_value(MODULUS, lists, constants, found, left, top, right, w);
+        let at = shelf.count;
+        shelf.starts[at] = top as u16;
+        shelf.sizes[at] = k as u16;
+        shelf.count = at + 1;
+        shelf.top = top + k;
         i += 1;
     }
-    Walk {
-        over: false,
-        line: 0,
-        shelf,
-    }
+    ended(false, 0, shelf)
+}
+
+// A walk that ended so.
+fn ended(over: bool, line: usize, shelf: Shelf) -> Walk
+    ensures { λ q. ⌜ q ≡ record { over = over; line = line; shelf = shelf } ⌝ }
+{
+    Walk { over, line, shelf }
 }

@@ -5,4 +5,5 @@ pub mod Laying
 pub mod Loading
 pub mod Forming
 pub mod Sizes
+pub mod Finding
 pub mod Values

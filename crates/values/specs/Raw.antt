@@ -51,9 +51,3 @@ pub record SizeAsked (s : Scope) (d : Shelf) : Type 0 where
 pub record OperandSized (s : Scope) (d : Shelf) (a : Operand) (k : ℕ) : Type 0 where
   pub means : (m w : ℕ) (b : List ℕ) → k ≡ length (operand (polynomials m (w - 1)) (reach w b d s) a)
   pub most : k ≤ mostStanding
-
--- the raw size of a statement, in every buffer with this directory
-abbrev pub RawSized : List (List ℕ) → List ℕ → Scope → Shelf → Op → ℕ → Type 0
-RawSized lists constants s d op k =
-    (m w : ℕ) (b : List ℕ) (maps : List AffineMap) → Tabled m maps lists constants
-    → k ≡ rawIn m (w - 1) maps (reach w b d s) op

@@ -1,7 +1,6 @@
 // Polynomials laid in a work buffer as terms of w bytes; places are counted in terms.
 use crate::source::Source;
 use buffer::term::write_at;
-ghost use mathlib.Core.Path.{_≡_};
 ghost use Prim.Native.Nat.{_+_, _*_, _-_, _<_, _≤_};
 ghost use lib.ListN.{length};
 ghost use Rattle.poly.specs.Poly.{constant, variable, units};

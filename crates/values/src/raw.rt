@@ -1,14 +1,15 @@
 // The raw size of a statement, from the sizes of its operands.
+use crate::found::Found;
 use crate::shelf::Shelf;
 use crate::source::Scope;
 use crate::source::locate;
 use crate::source::size_of;
-use text::types::Op;
 use text::types::Operand;
 ghost use mathlib.Core.Path.{_≡_};
 ghost use Prim.Native.Nat.{_+_, _*_, _≤_};
 ghost use Rattle.poly.specs.Size.{oneIf, nonzeros};
-ghost use Rattle.values.specs.Raw.{mostStanding, Mapped, SizeAsked, OperandSized, RawSized};
+ghost use Rattle.values.specs.Raw.{mostStanding, SizeAsked, OperandSized};
+ghost use Rattle.values.specs.Found.{foundSize, RawAsked};
 
 // How many terms an operand has.
 pub fn operand_size(s: Scope, d: Shelf, a: Operand) -> usize
@@ -45,18 +46,18 @@ pub fn image_size(list: [u8; 8], c: u8, p: usize) -> usize
 }
 
 // The raw size of a statement.
-pub fn raw_size(lists: [[u8; 8]; 8], constants: [u8; 8], s: Scope, d: Shelf, op: Op) -> usize
-    requires { ⌜ SizeAsked s d × Mapped op ⌝ }
-    ensures { λ k. ⌜ RawSized lists constants s d op k ⌝ }
+pub fn raw_size(lists: [[u8; 8]; 8], constants: [u8; 8], found: Found) -> usize
+    requires { ⌜ RawAsked found ⌝ }
+    ensures { λ k. ⌜ k ≡ foundSize lists constants found ⌝ }
 {
-    match op {
-        Op::Set(a) => operand_size(s, d, a),
-        Op::Xor(a, b) => operand_size(s, d, a) + operand_size(s, d, b),
-        Op::Mul(a, b) => operand_size(s, d, a) * operand_size(s, d, b),
-        Op::App(f, a) => {
+    match found {
+        Found::Copy(a) => size_of(a),
+        Found::Sum(a, b) => size_of(a) + size_of(b),
+        Found::Product(a, b) => size_of(a) * size_of(b),
+        Found::Image(f, a) => {
             let list = lists[f];
-            image_size(list, constants[f], operand_size(s, d, a))
+            image_size(list, constants[f], size_of(a))
         }
-        Op::Rand(v) => 1,
+        Found::Draw(_) => 1,
     }
 }

@@ -1,12 +1,11 @@
 // The directory of the first work buffer: where each statement's value stands, counted in terms.
 ghost use mathlib.Core.Path.{_≡_};
-ghost use Prim.Native.Nat.{_+_, _<_, _≤_};
-ghost use Rattle.values.specs.Shelf.{bare, shelved};
+ghost use Rattle.values.specs.Shelf.{bare};
 
 // The value of statement i has sizes[i] terms, from term starts[i] on; all values stand below top.
 pub struct Shelf {
-    pub starts: [usize; 256],
-    pub sizes: [usize; 256],
+    pub starts: [u16; 256],
+    pub sizes: [u16; 256],
     pub count: usize,
     pub top: usize,
 }
@@ -21,19 +20,4 @@ pub fn empty() -> Shelf
         count: 0,
         top: 0,
     }
-}
-
-// One value more, of the k terms above all others.
-pub fn shelve(d: Shelf, k: usize) -> Shelf
-    requires { ⌜ (d .count < 256) × (d .top + k ≤ 65536) ⌝ }
-    ensures { λ r. ⌜ r ≡ shelved d k ⌝ }
-{
-    let mut next = d;
-    let at = d.count;
-    let top = d.top;
-    next.starts[at] = top;
-    next.sizes[at] = k;
-    next.count = at + 1;
-    next.top = top + k;
-    next
 }

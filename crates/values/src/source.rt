@@ -2,10 +2,8 @@
 use crate::shelf::Shelf;
 use text::types::Operand;
 ghost use mathlib.Core.Path.{_≡_};
-ghost use Prim.Native.Nat.{_*_, _<_, _≤_};
+ghost use Prim.Native.Nat.{_*_, _<_};
 ghost use Rattle.text.specs.declared.types.Operand.the-variants.{Place};
-ghost use Rattle.text.specs.Limits.{mostVariables};
-ghost use Rattle.values.specs.Shelf.{Sound};
 ghost use Rattle.values.specs.Source.{Narrow, Located, sourceSize, Drawn};
 
 // A constant; the sum of some variables, the first and how many; or a value in the buffer, its
@@ -38,7 +36,7 @@ pub fn place(s: Scope, d: Shelf, i: usize) -> Source
         return Source::Constant(0);
     }
     let at = s.base + j;
-    Source::Stored(d.starts[at], d.sizes[at])
+    Source::Stored(d.starts[at] as usize, d.sizes[at] as usize)
 }
 
 // The value of an operand.

@@ -6,7 +6,7 @@ use native.Mathlib.Omega.{arith}
 use borrow.Author.Needs.{needs}
 use lib.ListN.{getD}
 use Rattle.field.specs.Xor.{_⊕_}
-use Rattle.field.specs.Field.{times, squared}
+use Rattle.field.specs.Field.{times}
 use Rattle.field.specs.Maps
 use Rattle.field.specs.Maps.{coefficient}
 use Rattle.field.proofs.Laws.Steps.{term, sum-next}
@@ -26,11 +26,8 @@ loop-holds c = (search needs, refl)
 array-read-times : tie.Need-array-read-times Inv-loop μ-loop
 array-read-times c = search needs
 
-dual-requires : tie.Need-dual-requires Inv-loop μ-loop
-dual-requires c κs = search needs
-
-squares-requires : tie.Need-squares-requires Inv-loop μ-loop
-squares-requires c κs = search needs
+dual-squared-requires : tie.Need-dual-squared-requires Inv-loop μ-loop
+dual-squared-requires c κs = search needs
 
 times-requires : tie.Need-times-requires Inv-loop μ-loop
 times-requires c κs = search needs
@@ -44,10 +41,9 @@ loop-less c = search needs
 loop-again : tie.Need-loop-again Inv-loop μ-loop
 unfolding _⊕_
 loop-again c =
-    let l = c .before .before .before .before .loop in
-    let g = c .before .before .before .before .before .args in
-    let raised = ap (squared (times (g .m)) (g .j)) (c .before .before .dual .ensures) in
-    let square = c .before .squares .ensures ∙ raised in (
+    let l = c .before .before .before .loop in
+    let g = c .before .before .before .before .args in
+    let square = c .before .dual-squared .ensures in (
       omega arith,
       ap₂ _⊕_ (c .times .ensures ∙ ap (times (g .m) (getD (g .t2) (l .i) 0)) square) (l .inv .1)
           ∙ sym (sum-next (l .i) (term (g .m) (g .t2) (g .j))),
@@ -64,5 +60,5 @@ returns c =
 pub coefficient-spec : {M : Type 1} → statement M
 coefficient-spec =
     tie.close
-    (tie.spec Inv-loop μ-loop loop-holds array-read-times dual-requires squares-requires times-requires add-i loop-less
+    (tie.spec Inv-loop μ-loop loop-holds array-read-times dual-squared-requires times-requires add-i loop-less
     loop-again returns)

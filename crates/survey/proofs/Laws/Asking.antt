@@ -83,28 +83,16 @@ lent-room r left right Q l =
     let h : r .variables + 1 ≤ 17 = omega (arith, Q .counted .room) in
     omega (arith, mul-le-mul-left mostStanding h, l .room)
 
-module _ {r : code.Routine} {left right : List ℕ} (Q : Ready r) (l : Lent left right) where
-  -- the buffers have the room that the origin block's walk asks
-  pub origin-workable : Workable modulus (originScope r) left right (termBytes r)
-  origin-workable = record {
-    modulus = aes;
-    wide = omega (arith, Q .counted .fits);
-    drawn = omega arith;
-    most = omega (arith, Q .counted .room);
-    spare = omega (arith, lent-room r left right Q l, l .same);
-    same = omega (arith, l .same);
-  }
-
-  -- and that the masked block's walk asks
-  pub masked-workable : Workable modulus (maskedScope r) left right (termBytes r)
-  masked-workable = record {
-    modulus = aes;
-    wide = omega (arith, Q .counted .fits, mul-one (r .inputs * r .shares));
-    drawn = omega arith;
-    most = omega (arith, Q .counted .room);
-    spare = omega (arith, lent-room r left right Q l, l .same);
-    same = omega (arith, l .same);
-  }
+-- the buffers have the room that a walk asks
+workable : {r : code.Routine} {left right : List ℕ} → Ready r → Lent left right
+    → Workable modulus left right (termBytes r)
+workable {r} {left} {right} Q l = record {
+  modulus = aes;
+  some = omega arith;
+  most = omega (arith, Q .counted .room);
+  spare = omega (arith, lent-room r left right Q l, l .same);
+  same = omega (arith, l .same);
+}
 
 -- ---- the two walks
 
@@ -124,7 +112,9 @@ module _ {r : code.Routine} {lists : List (List ℕ)} {constants left right : Li
       };
       most = omega arith;
     };
-    work = origin-workable (A .ready) (A .lent);
+    work = workable (A .ready) (A .lent);
+    wide = omega (arith, A .ready .counted .fits);
+    drawn = omega arith;
     tabled = A .tabled;
     ordered = omega arith;
     inside = omega (arith, A .ready .counted .statements);
@@ -146,7 +136,9 @@ module _ {r : code.Routine} {lists : List (List ℕ)} {constants left right : Li
       };
       most = B .top;
     };
-    work = masked-workable (A .ready) (A .lent);
+    work = workable (A .ready) (A .lent);
+    wide = omega (arith, A .ready .counted .fits, mul-one (r .inputs * r .shares));
+    drawn = omega arith;
     tabled = A .tabled;
     ordered = omega arith;
     inside = A .ready .counted .statements;

@@ -1,13 +1,18 @@
 -- Tables filled place by place, and a buffer cleared byte by byte.
 -- Assumes nothing.
-use mathlib.Core.Path.{_≡_, refl, sym, ap, _∙_}
-use Prim.Native.Nat.{ℕ, _+_, _≤_, _<_}
+use mathlib.Core.Path.{_≡_, refl, sym, ap, ap₂, _∙_}
+use Prim.Native.Nat.{ℕ, zero, suc, _+_, _≤_, _<_}
 use native.Mathlib.Omega.{arith}
 use native.Mathlib.Decide.{ℕ-discrete}
-use mathlib.Core.List.{List, []}
-use lib.ListN.{length, getD, set, replicate, length-set, length-replicate, getD-replicate}
+use mathlib.Core.List.{List, [], _∷_}
+use lib.ListN.{length, take, getD, set, replicate, length-take, length-set, length-replicate, getD-replicate}
+use lib.ListN.{List·getD-eq-default}
 use lib.Seq.{getD-set-same, getD-set-other, ext-getD}
-use Rattle.field.specs.Maps.{coefficientsOf}
+use Rattle.field.specs.Field.{Modulus, times, squared}
+use Rattle.field.specs.Maps.{listOf, dualOf, coefficient, coefficients, coefficientsOf}
+use Rattle.field.proofs.Laws.Algebra.{zero-mul}
+use Rattle.field.proofs.Laws.Sums.{sum-cong, sum-zero}
+use Rattle.field.proofs.Laws.Field.{gf-laws}
 use Rattle.text.specs.declared.types.AffineMap.{AffineMap}
 use Rattle.verdict.specs.Meaning.{mapAt}
 use Rattle.survey.specs.Table.{Listed, Constants}
@@ -22,6 +27,31 @@ filled-more {X} l g f v d k e h i n = go (ℕ-discrete i f)
     go : Dec (i ≡ f) → getD (set l f v) i d ≡ g i
     go (yes q) = ap (λ (x : ℕ). getD (set l f v) x d) q ∙ getD-set-same l f v d k ∙ e ∙ ap g (sym q)
     go (no q) = getD-set-other l f i v d q ∙ h i (omega arith)
+
+-- ---- the coefficients of a map that is 0 everywhere
+
+zeros-list : (n : ℕ) (g : ℕ → ℕ) → ((j : ℕ) → g j ≡ 0) → listOf n g ≡ replicate n 0
+unfolding listOf
+zeros-list zero g h = refl
+zeros-list (suc n) g h = ap₂ _∷_ (h 0) (zeros-list n (λ i. g (suc i)) (λ j. h (suc j)))
+
+zero-coefficients : {m : ℕ} → Modulus m → coefficientsOf m (replicate 8 0) ≡ replicate 8 0
+unfolding coefficientsOf coefficients coefficient
+zero-coefficients {m} M =
+    zeros-list 8 (coefficient (times m) (dualOf m) (replicate 8 0))
+    (λ j. sum-cong 8 (λ i l.
+    ap (λ (x : ℕ). times m x (squared (times m) j (getD (dualOf m) i 0))) (getD-replicate 8 i 0 0 l)
+    ∙ zero-mul (gf-laws M .ring) (squared (times m) j (getD (dualOf m) i 0))) ∙ sum-zero 8)
+
+-- past the last map they are 0
+pub listed-past : (m : ℕ) (maps : List AffineMap) (count f : ℕ) → Modulus m → count ≤ f
+    → replicate 8 0 ≡ coefficientsOf m (mapAt (take count maps) f .columns)
+unfolding mapAt
+listed-past m maps count f M h =
+    sym (ap (λ (x : AffineMap). coefficientsOf m (x .columns))
+    (List·getD-eq-default (take count maps) _ (rw length-take (omega arith))) ∙ zero-coefficients M)
+
+-- ---- the tables
 
 -- no map is listed yet
 pub listed-none : (m : ℕ) (maps : List AffineMap) (lists : List (List ℕ)) → length lists ≡ 8 → Listed m maps lists 0

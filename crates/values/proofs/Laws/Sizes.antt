@@ -4,25 +4,26 @@ use mathlib.Core.Path.{_≡_, refl, sym, ap, ap₂, _∙_, subst}
 use Prim.Native.Nat.{ℕ, zero, suc, _+_, _*_, _-_, _≤_, _<_}
 use native.Mathlib.Omega.{arith}
 use native.Mathlib.Nat.{mul-le-mul-right, mul-le-mul-left}
-use mathlib.Core.List.{List, [], _∷_}
+use mathlib.Core.List.{List, _∷_}
 use lib.ListN.{length, getD, drop}
 use lib.Seq.{drop-cons, drop-length}
-use Rattle.field.specs.Maps.{coefficientsOf}
 use Rattle.poly.specs.Poly.{Poly}
 use Rattle.poly.specs.Size.{oneIf, nonzeros}
 use Rattle.text.specs.declared.types.Operand.{Operand}
 use Rattle.text.specs.declared.types.Op.{Op}
 use Rattle.text.specs.declared.types.Op.the-variants.{Set, Xor, Mul, App, Rand}
 use Rattle.text.specs.Read.{Routine}
-use Rattle.verdict.specs.Meaning.{mapAt}
 use Rattle.verdict.specs.Instances.{polynomialsOf, modulusOf, powersOf}
-use Rattle.verdict.specs.Count.{applySize, rawSize}
+use Rattle.verdict.specs.Count.{rawSize}
 use Rattle.values.specs.declared.shelf.Shelf.{Shelf}
 use Rattle.values.specs.declared.source.Source.{Source}
 use Rattle.values.specs.declared.source.Source.the-variants.{Constant, Variables, Stored}
 use Rattle.values.specs.declared.source.Scope.{Scope}
 use Rattle.values.specs.Source.{sourceSize, Fits, Located}
-use Rattle.values.specs.Raw.{mostStanding, rawIn, Mapped, SizeAsked, OperandSized, RawSized}
+use Rattle.values.specs.declared.found.Found.{Found}
+use Rattle.values.specs.declared.found.Found.the-variants.{Sum, Product, Image}
+use Rattle.values.specs.Raw.{mostStanding, rawIn, SizeAsked, OperandSized}
+use Rattle.values.specs.Found.{RawAsked}
 use Rattle.values.specs.Load.{mostTermBytes}
 use Rattle.values.proofs.Laws.Sources.{source-length}
 
@@ -71,8 +72,8 @@ pub image-small : (n p : ℕ) → n ≤ 8 → p ≤ mostStanding → n * p ≤ 8
 image-small n p h k = omega (arith, mul-le-mul-right p h, mul-le-mul-left 8 k)
 
 -- so is that of a product
-pub product-small : (p q : ℕ) → p ≤ mostStanding → q ≤ mostStanding → p * q ≤ mostStanding * mostStanding
-product-small p q h k = omega (arith, mul-le-mul-right q h, mul-le-mul-left mostStanding k)
+times-small : (p q : ℕ) → p ≤ mostStanding → q ≤ mostStanding → p * q ≤ mostStanding * mostStanding
+times-small p q h k = omega (arith, mul-le-mul-right q h, mul-le-mul-left mostStanding k)
 
 -- ---- an operand
 
@@ -80,12 +81,12 @@ one-most : (c : ℕ) → oneIf c ≤ 1
 one-most zero = omega arith
 one-most (suc c) = omega arith
 
-fits-most : (w top : ℕ) (r : Source) → 0 < w → w ≤ mostTermBytes → top ≤ mostStanding → Fits w top r
+fits-most : (w top : ℕ) (r : Source) → w ≤ mostTermBytes → top ≤ mostStanding → Fits w top r
     → sourceSize r ≤ mostStanding
 unfolding sourceSize
-fits-most w top (Constant c) p h k f = omega (arith, one-most c)
-fits-most w top (Variables i j) p h k f = omega arith
-fits-most w top (Stored at j) p h k f = omega arith
+fits-most w top (Constant c) h k f = omega (arith, one-most c)
+fits-most w top (Variables i j) h k f = omega arith
+fits-most w top (Stored at j) h k f = omega arith
 
 -- the size of an operand is that of its source
 pub operand-sized : (s : Scope) (d : Shelf) (a : Operand) (r : Source) (k : ℕ) → SizeAsked s d → Located s d a r
@@ -94,55 +95,34 @@ operand-sized s d a r k q l e = record {
   means = λ m w b. e ∙ sym (source-length w b r) ∙ ap length (l .means m w b);
   most = omega (
     arith,
-    fits-most 17 (d .top) r (omega arith) (omega arith) (q .most)
+    fits-most 17 (d .top) r (omega arith) (q .most)
         (l .fits 17 (omega (arith, q .narrow .few))),
   );
 }
 
--- ---- a statement; x is the operation as the code has it
+-- ---- a statement; x is what the code has found
 
-module _ (lists : List (List ℕ)) (constants : List ℕ) (s : Scope) (d : Shelf) (x : Op) where
-  -- set: p
-  pub set-sized : (a : Operand) (k : ℕ) → x ≡ Set a → OperandSized s d a k → RawSized lists constants s d x k
-  unfolding rawIn
-  set-sized a k e h = subst (λ (o : Op). RawSized lists constants s d o k) (sym e) (λ m w b maps t. h .means m w b)
+module _ {x : Found} (Q : RawAsked x) where
+  -- a sum has two small operands
+  pub sum-small : {r t : Source} → x ≡ Sum r t → (sourceSize r ≤ mostStanding) × (sourceSize t ≤ mostStanding)
+  sum-small {r} {t} e =
+      let P = subst RawAsked e Q in (
+        fits-most (P .w) (P .top) r (P .wide) (P .most) (P .fits .0),
+        fits-most (P .w) (P .top) t (P .wide) (P .most) (P .fits .1),
+      )
 
-  -- xor: p + q
-  pub xor-sized : (a b : Operand) (k l : ℕ) → x ≡ Xor a b → OperandSized s d a k → OperandSized s d b l
-      → RawSized lists constants s d x (k + l)
-  unfolding rawIn
-  xor-sized a b k l e h g =
-      subst (λ (o : Op). RawSized lists constants s d o (k + l)) (sym e)
-      (λ m w u maps t. ap₂ (λ (y z : ℕ). y + z) (h .means m w u) (g .means m w u))
+  -- so has a product
+  pub product-small : {r t : Source} → x ≡ Product r t
+      → (sourceSize r * sourceSize t ≤ mostStanding * mostStanding)
+  product-small {r} {t} e =
+      let P = subst RawAsked e Q in
+      times-small (sourceSize r) (sourceSize t) (fits-most (P .w) (P .top) r (P .wide) (P .most) (P .fits .0))
+      (fits-most (P .w) (P .top) t (P .wide) (P .most) (P .fits .1))
 
-  -- mul: p · q
-  pub mul-sized : (a b : Operand) (k l : ℕ) → x ≡ Mul a b → OperandSized s d a k → OperandSized s d b l
-      → RawSized lists constants s d x (k * l)
-  unfolding rawIn
-  mul-sized a b k l e h g =
-      subst (λ (o : Op). RawSized lists constants s d o (k * l)) (sym e)
-      (λ m w u maps t. ap₂ (λ (y z : ℕ). y * z) (h .means m w u) (g .means m w u))
-
-  -- the map that is applied has a place in the table
-  pub app-place : (f : ℕ) (a : Operand) → x ≡ App f a → Mapped x → f < 8
-  app-place f a e h = subst Mapped e h
-
-  -- app: n · p, and one more where c is not 00
-  pub app-sized : (f : ℕ) (a : Operand) (k l : ℕ) → x ≡ App f a → Mapped x → OperandSized s d a k
-      → l ≡ nonzeros (getD lists f []) * k + oneIf (getD constants f 0) → RawSized lists constants s d x l
-  unfolding rawIn applySize
-  app-sized f a k l e n h g =
-      subst (λ (o : Op). RawSized lists constants s d o l) (sym e)
-      (λ m w u maps t. g
-      ∙ ap₂ (λ (y : List ℕ) (z : ℕ). nonzeros y * k + oneIf z) (t .coefficients f (app-place f a e n))
-      (t .constant f (app-place f a e n))
-      ∙ ap (λ (y : ℕ). nonzeros (coefficientsOf m (mapAt maps f .columns)) * y + oneIf (mapAt maps f .constant))
-      (h .means m w u))
-
-  -- rand: 1
-  pub rand-sized : (v : ℕ) → x ≡ Rand v → RawSized lists constants s d x 1
-  unfolding rawIn
-  rand-sized v e = subst (λ (o : Op). RawSized lists constants s d o 1) (sym e) (λ m w u maps t. refl)
+  -- the map that is applied has a place in the table, and its operand is small
+  pub image-place : {f : ℕ} {r : Source} → x ≡ Image f r → (f < 8) × (sourceSize r ≤ mostStanding)
+  image-place {f} {r} e =
+      let P = subst RawAsked e Q in (P .fits .0, fits-most (P .w) (P .top) r (P .wide) (P .most) (P .fits .1))
 
 -- it is the raw size of the rules
 pub raw-size-of : (r : Routine) (vs : List Poly) (o : Op)

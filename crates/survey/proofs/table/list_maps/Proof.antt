@@ -1,11 +1,9 @@
 -- `survey::table::list_maps` meets its contract. The invariant: the maps below f are listed. Assumes nothing.
-use mathlib.Core.Path.{subst, _≡_, ap, _∙_}
+use mathlib.Core.Path.{subst, _≡_}
 use borrow.Author.Needs.{needs}
 use native.Mathlib.Omega.{arith}
 use Prim.Native.Nat.{_≤_, _-_}
 use lib.ListN.{take}
-use Rattle.field.specs.Maps.{coefficientsOf}
-use Rattle.text.specs.declared.types.AffineMap.{AffineMap}
 use Rattle.survey.specs.Table.{Listed}
 use Rattle.survey.proofs.Laws.Filling.{listed-none, listed-more}
 use Rattle.survey.proofs.table.list_maps.Statement.{statement}
@@ -20,11 +18,8 @@ abbrev μ-loop : tie.MeasureT-loop
 loop-holds : tie.Need-loop-holds Inv-loop μ-loop
 loop-holds c = (omega arith, listed-none _ _ _ (search needs))
 
-map-at-requires : tie.Need-map-at-requires Inv-loop μ-loop
-map-at-requires c κs = search needs
-
-coefficients-requires : tie.Need-coefficients-requires Inv-loop μ-loop
-coefficients-requires c κs = search needs
+list-map-requires : tie.Need-list-map-requires Inv-loop μ-loop
+list-map-requires c κs = search needs
 
 mul-lists : tie.Need-mul-lists Inv-loop μ-loop
 mul-lists c = search needs
@@ -40,13 +35,11 @@ loop-less c = search needs
 
 loop-again : tie.Need-loop-again Inv-loop μ-loop
 loop-again c =
-    let a = c .before .before .before .before .before .args in
-    let loop = c .before .before .before .before .loop in
-    let map-at = c .before .before .map-at in (
+    let a = c .before .before .before .args in
+    let loop = c .before .before .loop in (
       omega arith,
-      listed-more (a .m) (take (a .count) (a .maps)) (loop .lists) (loop .f) (c .coefficients .result) (omega arith)
-          (c .coefficients .ensures ∙ ap (λ (f : AffineMap). coefficientsOf (a .m) (f .columns)) (map-at .ensures))
-          (loop .inv .1),
+      listed-more (a .m) (take (a .count) (a .maps)) (loop .lists) (loop .f) (c .list-map .result) (omega arith)
+          (c .list-map .ensures) (loop .inv .1),
     )
 
 returns : tie.Need-returns Inv-loop μ-loop
@@ -62,8 +55,7 @@ list-maps-spec =
     Inv-loop
     μ-loop
     loop-holds
-    map-at-requires
-    coefficients-requires
+    list-map-requires
     mul-lists
     array-set-from-lists
     add-f

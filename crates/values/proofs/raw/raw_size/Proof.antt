@@ -1,127 +1,131 @@
--- `values::raw::raw_size` meets its contract. Each arm by its law of Laws/Sizes. Assumes nothing.
+-- `values::raw::raw_size` meets its contract. Each arm by computing; the sizes are small. Assumes nothing.
+use mathlib.Core.Path.{ap, ap₂, _∙_}
+use mathlib.Core.List.{[]}
+use Prim.Native.Nat.{ℕ, _+_, _*_}
+use lib.ListN.{getD}
+use Rattle.poly.specs.Size.{oneIf, nonzeros}
 use native.Mathlib.Omega.{arith}
 use borrow.Author.Needs.{needs}
-use Rattle.values.proofs.Laws.Sizes.{product-small, set-sized, xor-sized, mul-sized, app-place, app-sized}
-use Rattle.values.proofs.Laws.Sizes.{rand-sized}
+use Rattle.values.specs.Found.{foundSize}
+use Rattle.values.proofs.Laws.Sizes.{sum-small, product-small, image-place}
 use Rattle.values.proofs.raw.raw_size.Statement.{statement}
 use Rattle.values.proofs.raw.raw_size.Tie as tie
 
-enum-known-op : tie.Need-enum-known-op
-enum-known-op c = search needs
+enum-known-found : tie.Need-enum-known-found
+enum-known-found c = search needs
 
-operand-size-requires : tie.Need-operand-size-requires
-operand-size-requires c κs = c .before .before .before .pre .0
+size-of-requires : tie.Need-size-of-requires
+size-of-requires c κs = tt
 
-enum-known-op-2 : tie.Need-enum-known-op-2
-enum-known-op-2 c = search needs
+enum-known-found-2 : tie.Need-enum-known-found-2
+enum-known-found-2 c = search needs
 
-operand-size-requires-2 : tie.Need-operand-size-requires-2
-operand-size-requires-2 c κs = c .before .before .before .pre .0
+size-of-requires-2 : tie.Need-size-of-requires-2
+size-of-requires-2 c κs = tt
 
-operand-size-requires-3 : tie.Need-operand-size-requires-3
-operand-size-requires-3 c κs = c .before .before .before .before .pre .0
+size-of-requires-3 : tie.Need-size-of-requires-3
+size-of-requires-3 c κs = tt
 
 add-result : tie.Need-add-result
-add-result c = omega (arith, c .before .operand-size2 .ensures .most, c .operand-size3 .ensures .most)
+add-result c =
+    let s = c .before .before .before .before .before in
+    omega (
+      arith,
+      c .before .size-of2 .ensures,
+      c .size-of3 .ensures,
+      sum-small (s .pre) (c .before .before .before .found2 .given .1),
+    )
 
-enum-known-op-3 : tie.Need-enum-known-op-3
-enum-known-op-3 c = search needs
+enum-known-found-3 : tie.Need-enum-known-found-3
+enum-known-found-3 c = search needs
 
-operand-size-requires-4 : tie.Need-operand-size-requires-4
-operand-size-requires-4 c κs = c .before .before .before .pre .0
+size-of-requires-4 : tie.Need-size-of-requires-4
+size-of-requires-4 c κs = tt
 
-operand-size-requires-5 : tie.Need-operand-size-requires-5
-operand-size-requires-5 c κs = c .before .before .before .before .pre .0
+size-of-requires-5 : tie.Need-size-of-requires-5
+size-of-requires-5 c κs = tt
 
 mul-result : tie.Need-mul-result
 mul-result c =
-    omega (arith, product-small _ _ (c .before .operand-size4 .ensures .most) (c .operand-size5 .ensures .most))
+    let s = c .before .before .before .before .before in
+    let e = ap₂ (λ (x y : ℕ). x * y) (c .before .size-of4 .ensures) (c .size-of5 .ensures) in
+    omega (arith, e, product-small (s .pre) (c .before .before .before .found3 .given .1))
 
-enum-known-op-4 : tie.Need-enum-known-op-4
-enum-known-op-4 c = search needs
+enum-known-found-4 : tie.Need-enum-known-found-4
+enum-known-found-4 c = search needs
 
 mul-list : tie.Need-mul-list
 mul-list c =
-    let a = c .before .before .before .args in
-    let p = c .before .before .before .pre in
-    omega (arith, app-place (a .t1) (a .t2) (a .s) (a .d) (a .op) _ _ (c .before .op4 .given .1) (p .1))
+    omega (arith, image-place (c .before .before .before .pre) (c .before .found4 .given .1))
 
 array-copy-out-list : tie.Need-array-copy-out-list
-array-copy-out-list c =
-    let a = c .before .before .before .args in
-    let p = c .before .before .before .pre in
-    app-place (a .t1) (a .t2) (a .s) (a .d) (a .op) _ _ (c .before .op4 .given .1) (p .1)
+array-copy-out-list c = image-place (c .before .before .before .pre) (c .before .found4 .given .1) .0
 
 array-read-image-size : tie.Need-array-read-image-size
-array-read-image-size c =
-    let a = c .before .before .before .before .args in
-    let p = c .before .before .before .before .pre in
-    let op4 = c .before .before .op4 in
-    app-place (a .t1) (a .t2) (a .s) (a .d) (a .op) _ _ (op4 .given .1) (p .1)
+array-read-image-size c = image-place (c .before .before .before .before .pre) (c .before .before .found4 .given .1) .0
 
-operand-size-requires-6 : tie.Need-operand-size-requires-6
-operand-size-requires-6 c κs = c .before .before .before .before .pre .0
+size-of-requires-6 : tie.Need-size-of-requires-6
+size-of-requires-6 c κs = tt
 
 image-size-requires : tie.Need-image-size-requires
-image-size-requires c κs = c .operand-size6 .ensures .most
+image-size-requires c κs =
+    let s = c .before .before .before .before .before in
+    omega (arith, c .size-of6 .ensures, image-place (s .pre) (c .before .before .before .found4 .given .1))
 
-enum-known-op-5 : tie.Need-enum-known-op-5
-enum-known-op-5 c = search needs
+enum-told : tie.Need-enum-told
+enum-told c = search needs
 
 returns : tie.Need-returns
-returns c =
-    let a = c .before .before .before .before .args in
-    let op = c .before .before .op in
-    set-sized (a .t1) (a .t2) (a .s) (a .d) (a .op) _ _ (op .given .1) (c .operand-size .ensures)
+unfolding foundSize
+returns c = rw (c .before .before .found .given .1) (c .size-of .ensures)
 
 returns-2 : tie.Need-returns-2
+unfolding foundSize
 returns-2 c =
-    let a = c .before .before .before .before .before .args in
-    let op2 = c .before .before .before .op2 in
-    xor-sized (a .t1) (a .t2) (a .s) (a .d) (a .op) _ _ _ _ (op2 .given .1) (c .before .operand-size2 .ensures)
-    (c .operand-size3 .ensures)
+    let e = ap₂ (λ (x y : ℕ). x + y) (c .before .size-of2 .ensures) (c .size-of3 .ensures) in
+    rw (c .before .before .before .found2 .given .1) e
 
 returns-3 : tie.Need-returns-3
+unfolding foundSize
 returns-3 c =
-    let a = c .before .before .before .before .before .args in
-    let op3 = c .before .before .before .op3 in
-    mul-sized (a .t1) (a .t2) (a .s) (a .d) (a .op) _ _ _ _ (op3 .given .1) (c .before .operand-size4 .ensures)
-    (c .operand-size5 .ensures)
+    let e = ap₂ (λ (x y : ℕ). x * y) (c .before .size-of4 .ensures) (c .size-of5 .ensures) in
+    rw (c .before .before .before .found3 .given .1) e
 
 returns-4 : tie.Need-returns-4
+unfolding foundSize
 returns-4 c =
     let a = c .before .before .before .before .before .before .args in
-    let p = c .before .before .before .before .before .before .pre in
-    let op4 = c .before .before .before .before .op4 in
-    app-sized (a .t1) (a .t2) (a .s) (a .d) (a .op) _ _ _ _ (op4 .given .1) (p .1) (c .before .operand-size6 .ensures)
-    (c .image-size .ensures)
+    let found4 = c .before .before .before .before .found4 in
+    let f = found4 .given .0 .0 in
+    let size-of6 = c .before .size-of6 in
+    let e = ap (λ (x : ℕ). nonzeros (getD (a .t1) f []) * x + oneIf (getD (a .t2) f 0)) (size-of6 .ensures) in
+    rw (found4 .given .1) (c .image-size .ensures ∙ e)
 
 returns-5 : tie.Need-returns-5
-returns-5 c =
-    let a = c .before .before .before .args in
-    rand-sized (a .t1) (a .t2) (a .s) (a .d) (a .op) _ (c .before .op5 .given .1)
+unfolding foundSize
+returns-5 c = rw (c .enum-told .given .1)
 
 pub raw-size-spec : {M : Type 1} → statement M
 raw-size-spec =
     tie.close
     (tie.spec
-    enum-known-op
-    operand-size-requires
-    enum-known-op-2
-    operand-size-requires-2
-    operand-size-requires-3
+    enum-known-found
+    size-of-requires
+    enum-known-found-2
+    size-of-requires-2
+    size-of-requires-3
     add-result
-    enum-known-op-3
-    operand-size-requires-4
-    operand-size-requires-5
+    enum-known-found-3
+    size-of-requires-4
+    size-of-requires-5
     mul-result
-    enum-known-op-4
+    enum-known-found-4
     mul-list
     array-copy-out-list
     array-read-image-size
-    operand-size-requires-6
+    size-of-requires-6
     image-size-requires
-    enum-known-op-5
+    enum-told
     returns
     returns-2
     returns-3

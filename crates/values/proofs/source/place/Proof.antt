@@ -25,14 +25,20 @@ add-at c = search needs
 mul-t9 : tie.Need-mul-t9
 mul-t9 c = search needs
 
-element-copy-out-t10 : tie.Need-element-copy-out-t10
-element-copy-out-t10 c = search needs
+element-copy-out-t13 : tie.Need-element-copy-out-t13
+element-copy-out-t13 c = search needs
 
-mul-t13 : tie.Need-mul-t13
-mul-t13 c = search needs
+cast-t10 : tie.Need-cast-t10
+cast-t10 c = search needs
 
-element-copy-out-t16 : tie.Need-element-copy-out-t16
-element-copy-out-t16 c = search needs
+mul-t14 : tie.Need-mul-t14
+mul-t14 c = search needs
+
+element-copy-out-t17 : tie.Need-element-copy-out-t17
+element-copy-out-t17 c = search needs
+
+cast-t18 : tie.Need-cast-t18
+cast-t18 c = search needs
 
 returns-3 : tie.Need-returns-3
 returns-3 c =
@@ -49,7 +55,9 @@ place-spec =
     returns-2
     add-at
     mul-t9
-    element-copy-out-t10
-    mul-t13
-    element-copy-out-t16
+    element-copy-out-t13
+    cast-t10
+    mul-t14
+    element-copy-out-t17
+    cast-t18
     returns-3)

@@ -1,81 +1,52 @@
--- `values::value::form_value` meets its contract. Each arm by its two laws of Laws/Values. Assumes nothing.
+-- `values::value::form_value` meets its contract. Each arm by its law of Laws/Values. Assumes nothing.
 use borrow.Author.Needs.{needs}
-use Rattle.values.proofs.Laws.Values.{set-asked, rand-asked, xor-asked, mul-asked, app-asked, set-formed}
-use Rattle.values.proofs.Laws.Values.{rand-formed, xor-formed, mul-formed, app-formed, asked-at}
+use Rattle.values.specs.Found.{foundValue}
+use Rattle.values.proofs.Laws.Values.{copy-asked, draw-asked, sum-asked, product-asked, image-asked, formed-at}
 use Rattle.values.proofs.value.form_value.Statement.{statement}
 use Rattle.values.proofs.value.form_value.Tie as tie
 
-enum-known-op : tie.Need-enum-known-op
-enum-known-op c = search needs
-
-locate-requires : tie.Need-locate-requires
-locate-requires c κs = c .before .before .before .before .before .before .pre .sized .narrow
+enum-known-found : tie.Need-enum-known-found
+enum-known-found c = search needs
 
 form-copy-requires : tie.Need-form-copy-requires
 form-copy-requires c κs =
-    let p = c .before .before .before .before .before .before .before .before .pre in
-    let op = c .before .before .before .before .op in
-    set-asked (asked-at (op .given .1) p) (c .before .locate .ensures)
+    let s = c .before .before .before .before .before .before .before in
+    copy-asked (s .pre) (c .before .before .before .found .given .1)
 
-enum-known-op-2 : tie.Need-enum-known-op-2
-enum-known-op-2 c = search needs
-
-locate-requires-2 : tie.Need-locate-requires-2
-locate-requires-2 c κs = c .before .before .before .before .before .before .pre .sized .narrow
-
-locate-requires-3 : tie.Need-locate-requires-3
-locate-requires-3 c κs = c .before .before .before .before .before .before .before .pre .sized .narrow
+enum-known-found-2 : tie.Need-enum-known-found-2
+enum-known-found-2 c = search needs
 
 form-sum-requires : tie.Need-form-sum-requires
 form-sum-requires c κs =
-    let p = c .before .before .before .before .before .before .before .before .before .pre in
-    let op2 = c .before .before .before .before .before .op2 in
-    let locate2 = c .before .before .locate2 in
-    xor-asked (asked-at (op2 .given .1) p) (locate2 .ensures) (c .before .locate3 .ensures)
+    let s = c .before .before .before .before .before .before .before in
+    sum-asked (s .pre) (c .before .before .before .found2 .given .1)
 
-enum-known-op-3 : tie.Need-enum-known-op-3
-enum-known-op-3 c = search needs
-
-locate-requires-4 : tie.Need-locate-requires-4
-locate-requires-4 c κs = c .before .before .before .before .before .before .pre .sized .narrow
-
-locate-requires-5 : tie.Need-locate-requires-5
-locate-requires-5 c κs = c .before .before .before .before .before .before .before .pre .sized .narrow
+enum-known-found-3 : tie.Need-enum-known-found-3
+enum-known-found-3 c = search needs
 
 form-product-requires : tie.Need-form-product-requires
 form-product-requires c κs =
-    let p = c .before .before .before .before .before .before .before .before .before .pre in
-    let op3 = c .before .before .before .before .before .op3 in
-    let locate4 = c .before .before .locate4 in
-    mul-asked (asked-at (op3 .given .1) p) (locate4 .ensures) (c .before .locate5 .ensures)
+    let s = c .before .before .before .before .before .before .before in
+    product-asked (s .pre) (c .before .before .before .found3 .given .1)
 
-enum-known-op-4 : tie.Need-enum-known-op-4
-enum-known-op-4 c = search needs
+enum-known-found-4 : tie.Need-enum-known-found-4
+enum-known-found-4 c = search needs
 
 array-read-form-image : tie.Need-array-read-form-image
-array-read-form-image c =
-    asked-at (c .before .op4 .given .1) (c .before .before .before .before .before .pre) .mapped
-
-locate-requires-6 : tie.Need-locate-requires-6
-locate-requires-6 c κs = c .before .before .before .before .before .before .pre .sized .narrow
+array-read-form-image c = image-asked (c .before .before .before .before .before .pre) (c .before .found4 .given .1) .1
 
 form-image-requires : tie.Need-form-image-requires
 form-image-requires c κs =
-    let p = c .before .before .before .before .before .before .before .before .pre in
-    let op4 = c .before .before .before .before .op4 in
-    app-asked (asked-at (op4 .given .1) p) (c .before .locate6 .ensures)
+    let s = c .before .before .before .before .before .before .before in
+    image-asked (s .pre) (c .before .before .before .found4 .given .1)
 
-enum-known-op-5 : tie.Need-enum-known-op-5
-enum-known-op-5 c = search needs
-
-draw-requires : tie.Need-draw-requires
-draw-requires c κs = tt
+enum-known-found-5 : tie.Need-enum-known-found-5
+enum-known-found-5 c = search needs
 
 form-copy-requires-2 : tie.Need-form-copy-requires-2
 form-copy-requires-2 c κs =
-    let p = c .before .before .before .before .before .before .before .before .pre in
-    let op5 = c .before .before .before .before .op5 in
-    rand-asked (asked-at (op5 .given .1) p) (c .before .draw .ensures)
+    let s = c .before .before .before .before .before .before .before in
+    draw-asked (s .pre) (c .before .before .before .found5 .given .1)
 
 same-length : tie.Need-same-length
 same-length c = search needs
@@ -84,14 +55,12 @@ same-length-2 : tie.Need-same-length-2
 same-length-2 c = search needs
 
 returns : tie.Need-returns
+unfolding foundValue
 returns c =
     let b = c .before .before .before .before .before .before .before .before in
-    let a = b .before .before .before .before .before .args in
-    let op = b .before .op in
-    let locate = c .before .before .before .before .before .before .locate in
-    let form-copy = c .before .before .before .before .form-copy in
-    set-formed (a .m) (a .lists) (a .t3) (a .s) (a .d) (a .left .now) (a .w) (op .given .1) (locate .ensures)
-    (form-copy .ensures)
+    let a = b .before .before .before .before .args in
+    formed-at (a .m) (a .lists) (a .t3) (a .left .now) _ (a .top) (a .w) _ (b .found .given .1)
+    (c .before .before .before .before .form-copy .ensures)
 
 same-length-3 : tie.Need-same-length-3
 same-length-3 c = search needs
@@ -100,15 +69,12 @@ same-length-4 : tie.Need-same-length-4
 same-length-4 c = search needs
 
 returns-2 : tie.Need-returns-2
+unfolding foundValue
 returns-2 c =
     let b = c .before .before .before .before .before .before .before .before in
-    let a = b .before .before .before .before .before .before .args in
-    let op2 = b .before .before .op2 in
-    let locate2 = c .before .before .before .before .before .before .before .locate2 in
-    let locate3 = c .before .before .before .before .before .before .locate3 in
-    let form-sum = c .before .before .before .before .form-sum in
-    xor-formed (a .m) (a .lists) (a .t3) (a .s) (a .d) (a .left .now) (a .w) (op2 .given .1) (locate2 .ensures)
-    (locate3 .ensures) (form-sum .ensures)
+    let a = b .before .before .before .before .args in
+    formed-at (a .m) (a .lists) (a .t3) (a .left .now) _ (a .top) (a .w) _ (b .found2 .given .1)
+    (c .before .before .before .before .form-sum .ensures)
 
 same-length-5 : tie.Need-same-length-5
 same-length-5 c = search needs
@@ -117,15 +83,12 @@ same-length-6 : tie.Need-same-length-6
 same-length-6 c = search needs
 
 returns-3 : tie.Need-returns-3
+unfolding foundValue
 returns-3 c =
     let b = c .before .before .before .before .before .before .before .before in
-    let a = b .before .before .before .before .before .before .args in
-    let op3 = b .before .before .op3 in
-    let locate4 = c .before .before .before .before .before .before .before .locate4 in
-    let locate5 = c .before .before .before .before .before .before .locate5 in
-    let form-product = c .before .before .before .before .form-product in
-    mul-formed (a .m) (a .lists) (a .t3) (a .s) (a .d) (a .left .now) (a .w) (op3 .given .1) (locate4 .ensures)
-    (locate5 .ensures) (form-product .ensures)
+    let a = b .before .before .before .before .args in
+    formed-at (a .m) (a .lists) (a .t3) (a .left .now) _ (a .top) (a .w) _ (b .found3 .given .1)
+    (c .before .before .before .before .form-product .ensures)
 
 same-length-7 : tie.Need-same-length-7
 same-length-7 c = search needs
@@ -134,15 +97,12 @@ same-length-8 : tie.Need-same-length-8
 same-length-8 c = search needs
 
 returns-4 : tie.Need-returns-4
+unfolding foundValue
 returns-4 c =
     let b = c .before .before .before .before .before .before .before .before in
-    let a = b .before .before .before .before .before .args in
-    let p = b .before .before .before .before .before .pre in
-    let op4 = b .before .op4 in
-    let locate6 = c .before .before .before .before .before .before .locate6 in
-    let form-image = c .before .before .before .before .form-image in
-    app-formed (a .m) (a .lists) (a .t3) (a .s) (a .d) (a .left .now) (a .w) (op4 .given .1) (p .mapped)
-    (locate6 .ensures) (form-image .ensures)
+    let a = b .before .before .before .before .args in
+    formed-at (a .m) (a .lists) (a .t3) (a .left .now) _ (a .top) (a .w) _ (b .found4 .given .1)
+    (c .before .before .before .before .form-image .ensures)
 
 same-length-9 : tie.Need-same-length-9
 same-length-9 c = search needs
@@ -151,36 +111,27 @@ same-length-10 : tie.Need-same-length-10
 same-length-10 c = search needs
 
 returns-5 : tie.Need-returns-5
+unfolding foundValue
 returns-5 c =
     let b = c .before .before .before .before .before .before .before .before in
-    let a = b .before .before .before .before .before .args in
-    let op5 = b .before .op5 in
-    let draw = c .before .before .before .before .before .before .draw in
-    let form-copy2 = c .before .before .before .before .form-copy2 in
-    rand-formed (a .m) (a .lists) (a .t3) (a .s) (a .d) (a .left .now) (a .w) (op5 .given .1) (draw .ensures)
-    (form-copy2 .ensures)
+    let a = b .before .before .before .before .args in
+    formed-at (a .m) (a .lists) (a .t3) (a .left .now) _ (a .top) (a .w) _ (b .found5 .given .1)
+    (c .before .before .before .before .form-copy2 .ensures)
 
 pub form-value-spec : {M : Type 1} → statement M
 form-value-spec =
     tie.close
     (tie.spec
-    enum-known-op
-    locate-requires
+    enum-known-found
     form-copy-requires
-    enum-known-op-2
-    locate-requires-2
-    locate-requires-3
+    enum-known-found-2
     form-sum-requires
-    enum-known-op-3
-    locate-requires-4
-    locate-requires-5
+    enum-known-found-3
     form-product-requires
-    enum-known-op-4
+    enum-known-found-4
     array-read-form-image
-    locate-requires-6
     form-image-requires
-    enum-known-op-5
-    draw-requires
+    enum-known-found-5
     form-copy-requires-2
     same-length
     same-length-2

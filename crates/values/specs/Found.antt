@@ -1,0 +1,63 @@
+-- A statement's value and its raw size by the sources of its operands. A term has w bytes.
+-- Assumes nothing.
+use mathlib.Core.Path.{_≡_}
+use Prim.Native.Nat.{ℕ, _+_, _*_, _-_, _≤_, _<_}
+use mathlib.Core.List.{List, []}
+use lib.ListN.{getD}
+use Rattle.field.specs.Laws.{gf}
+use Rattle.poly.specs.Poly.{Poly, addPoly, mulPoly, mapPoly}
+use Rattle.poly.specs.Size.{oneIf, nonzeros}
+use Rattle.text.specs.declared.types.Op.{Op}
+use Rattle.text.specs.declared.types.AffineMap.{AffineMap}
+use Rattle.verdict.specs.Meaning.{given}
+use Rattle.verdict.specs.Instances.{polynomials}
+use Rattle.values.specs.declared.shelf.Shelf.{Shelf}
+use Rattle.values.specs.declared.source.Scope.{Scope}
+use Rattle.values.specs.declared.found.Found.{Found}
+use Rattle.values.specs.declared.found.Found.the-variants.{Copy, Sum, Product, Image, Draw}
+use Rattle.values.specs.Source.{sourceOf, sourceSize, Fits, variablesOf, reach}
+use Rattle.values.specs.Load.{mostTermBytes}
+use Rattle.values.specs.Raw.{mostStanding, rawIn, Tabled}
+
+-- the value, where b holds the values so far
+unfoldable pub foundValue : (m w : ℕ) → List (List ℕ) → List ℕ → List ℕ → Found → Poly
+foundValue m w lists constants b (Copy r) = sourceOf w b r
+foundValue m w lists constants b (Sum r t) = addPoly (gf m) (sourceOf w b r) (sourceOf w b t)
+foundValue m w lists constants b (Product r t) = mulPoly (gf m) (sourceOf w b r) (sourceOf w b t)
+foundValue m w lists constants b (Image f r) =
+    mapPoly (gf m) (w - 1) (getD constants f 0) (getD lists f []) (sourceOf w b r)
+foundValue m w lists constants b (Draw r) = sourceOf w b r
+
+-- the raw size
+unfoldable pub foundSize : List (List ℕ) → List ℕ → Found → ℕ
+foundSize lists constants (Copy r) = sourceSize r
+foundSize lists constants (Sum r t) = sourceSize r + sourceSize t
+foundSize lists constants (Product r t) = sourceSize r * sourceSize t
+foundSize lists constants (Image f r) = nonzeros (getD lists f []) * sourceSize r + oneIf (getD constants f 0)
+foundSize lists constants (Draw r) = 1
+
+-- all sources fit, the map has a place in the table, and what is drawn has at most one term
+abbrev pub AllFit : ℕ → ℕ → Found → Type 0
+AllFit w top (Copy r) = Fits w top r
+AllFit w top (Sum r t) = Fits w top r × Fits w top t
+AllFit w top (Product r t) = Fits w top r × Fits w top t
+AllFit w top (Image f r) = (f < 8) × Fits w top r
+AllFit w top (Draw r) = Fits w top r × (sourceSize r ≤ 1)
+
+-- the sources are those of the statement's operands, in every buffer with this directory
+pub record FoundFor (s : Scope) (d : Shelf) (op : Op) (r : Found) : Type 0 where
+  pub means : (m w : ℕ) (lists : List (List ℕ)) (constants b : List ℕ) (maps : List AffineMap)
+      → Tabled m maps lists constants
+      → foundValue m w lists constants b r
+      ≡ given (polynomials m (w - 1)) maps (variablesOf (w - 1) s) (reach w b d s) op
+  pub sized : (m w : ℕ) (lists : List (List ℕ)) (constants b : List ℕ) (maps : List AffineMap)
+      → Tabled m maps lists constants → foundSize lists constants r ≡ rawIn m (w - 1) maps (reach w b d s) op
+  pub fits : (w : ℕ) → s .begins * s .width < w → s .drawn < w → AllFit w (d .top) r
+
+-- what the raw size asks: sources that fit where not too many terms stand
+pub record RawAsked (r : Found) : Type 0 where
+  pub w : ℕ
+  pub top : ℕ
+  pub wide : w ≤ mostTermBytes
+  pub most : top ≤ mostStanding
+  pub fits : AllFit w top r
