@@ -91,6 +91,21 @@ pub fn drawn_valuations(
     (0..variables).map(&mut column).collect()
 }
 
+/// Whether both results agree on every valuation of up to two variables.
+pub fn equal_on_all(routine: &Routine) -> bool {
+    let every = (0..=255).collect::<Vec<u8>>();
+    let equal = |columns: &[Vec<u8>], count| {
+        let (original, joined) = run_columns(routine, columns, count);
+        original == joined
+    };
+    match routine.variables {
+        0 => equal(&[], 1),
+        1 => equal(&[every], 256),
+        2 => (0..=255).all(|byte| equal(&[every.clone(), vec![byte; 256]], 256)),
+        _ => true,
+    }
+}
+
 #[cfg(test)]
 mod tests {
     use super::*;

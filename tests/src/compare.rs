@@ -1,6 +1,6 @@
 //! One text, both sides: the report, every lent byte, run and coefficients.
 
-use crate::batch::{drawn_valuations, run_columns, run_routine};
+use crate::batch::{drawn_valuations, equal_on_all, run_columns, run_routine};
 use crate::guard::{Lent, Pool};
 use crate::judge::{judge_lent, Judgement};
 use crate::limits::{MOST_VARIABLES, WORK};
@@ -9,6 +9,7 @@ use crate::random::Random;
 use crate::reading::read;
 use crate::report::{CoefficientsAnswer, Report, RunAnswer, Verdict, WRONG_NUMBER};
 use crate::routine::Routine;
+use crate::unroll::unrolled;
 
 /// The compared implementation.
 pub trait Side {
@@ -33,6 +34,8 @@ pub struct Outcome {
     /// Refusal numbers of the other calls: too little lent, run on a wrong number of bytes,
     /// coefficients.
     pub others: Vec<u64>,
+    /// Whether the text is accepted and has a let, so that its unrolled form was judged too.
+    pub unrolled: bool,
 }
 
 /// The compared side with its buffers.
@@ -78,7 +81,7 @@ impl<'a> Comparison<'a> {
     /// Compares all operations on one text; an error says what differs.
     pub fn check(&mut self, text: &[u8]) -> Result<Outcome, String> {
         let judgement = self.check_judge(text, true)?;
-        let mut others = vec![];
+        let (mut others, mut unrolled) = (vec![], false);
         if self.random.one_in(64) {
             others.push(self.check_judge(text, false)?.report.refusal);
         }
@@ -86,6 +89,7 @@ impl<'a> Comparison<'a> {
             Ok(routine) => {
                 self.check_meaning(text, &routine, &judgement)?;
                 others.extend(self.check_runs(text, &routine)?);
+                unrolled = self.check_unrolled(text, &routine, &judgement)?;
             }
             Err(refusal) => {
                 let count = self.random.below(MOST_VARIABLES + 2);
@@ -97,7 +101,11 @@ impl<'a> Comparison<'a> {
             others.extend(self.check_coefficients()?);
         }
         let report = judgement.report;
-        Ok(Outcome { report, others })
+        Ok(Outcome {
+            report,
+            others,
+            unrolled,
+        })
     }
 
     /// The lengths of the lent buffers, all enough or one of them too short.
@@ -192,6 +200,26 @@ impl<'a> Comparison<'a> {
         }
     }
 
+    /// Judges and runs the unrolled form of a text with a let: the answers are those of the text,
+    /// and the line of unknown comes from the text's.
+    fn check_unrolled(
+        &mut self,
+        text: &[u8],
+        routine: &Routine,
+        judgement: &Judgement,
+    ) -> Result<bool, String> {
+        let Some(form) = unrolled(text) else {
+            return Ok(false);
+        };
+        let mut own = self.check_judge(&form.text, true)?;
+        own.report.line = form.source(own.report.line);
+        same("unrolled form", &own, judgement)?;
+        let (bytes, answer) = self.run_drawn(&form.text, routine.variables);
+        let run = RunAnswer::taken(run_routine(routine, &bytes));
+        same("run of the unrolled form", &answer, &run)?;
+        Ok(true)
+    }
+
     /// Compares coefficients of a drawn list, seldom of a wrong length.
     fn check_coefficients(&mut self) -> Result<Option<u64>, String> {
         let length = match self.random.one_in(8) {
@@ -207,20 +235,5 @@ impl<'a> Comparison<'a> {
         }
         same("coefficients", &answer, &own)?;
         Ok((own.refusal != 0).then_some(own.refusal))
-    }
-}
-
-/// Whether both results agree on every valuation of up to two variables.
-fn equal_on_all(routine: &Routine) -> bool {
-    let every = (0..=255).collect::<Vec<u8>>();
-    let equal = |columns: &[Vec<u8>], count| {
-        let (original, joined) = run_columns(routine, columns, count);
-        original == joined
-    };
-    match routine.variables {
-        0 => equal(&[], 1),
-        1 => equal(&[every], 256),
-        2 => (0..=255).all(|byte| equal(&[every.clone(), vec![byte; 256]], 256)),
-        _ => true,
     }
 }

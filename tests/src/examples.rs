@@ -1,5 +1,7 @@
-//! The examples E1 to E13 and those of M-102 as texts, each with the line that the program prints.
+//! The examples E1 to E13, those of M-102 and those of M-100 as texts, each with the line that the
+//! program prints.
 
+use crate::let_examples;
 use crate::maps::{FIPS, SQUARING};
 use crate::texts::draft::{map_line, Draft};
 
@@ -42,6 +44,7 @@ pub fn examples() -> Vec<Example> {
     add("E13", one_idle(), "equal 0 0 0 0 1");
     add("cancelled", cancelled(), "equal 0 0 0 0 1");
     add("multiplied", multiplied(), "equal 0 0 0 0 1");
+    all.extend(let_examples::examples());
     all
 }
 
@@ -60,7 +63,7 @@ fn mapped(shares: usize) -> Draft {
 }
 
 /// The output line of the shares of one name.
-fn output_line(name: &str, shares: usize) -> String {
+pub fn output_line(name: &str, shares: usize) -> String {
     let mut line = "output".to_string();
     for share in 0..shares {
         line.push_str(&format!(" {name}.{share}"));

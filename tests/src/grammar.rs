@@ -1,13 +1,15 @@
 //! One line as a record: the words, the numbers of fields and the forms of fields.
 
+use crate::formula::{formula_of, Formula};
 use crate::limits::{MOST_NAME, MOST_SHARES};
 use crate::maps::Map;
 
-/// An operand as it is written.
+/// An operand as it is written; in a formula also the value of one of its earlier operations.
 #[derive(Clone, Copy, Debug, PartialEq, Eq)]
 pub enum Operand<'a> {
     Name(&'a [u8]),
     Constant(u8),
+    Inner(usize),
 }
 
 /// What a statement does, as it is written.
@@ -28,6 +30,7 @@ pub enum Record<'a> {
     Input(&'a [u8]),
     Origin,
     Statement(&'a [u8], Action<'a>),
+    Let(&'a [u8], Formula<'a>),
     Result(&'a [u8]),
     Masked,
     Output(Vec<&'a [u8]>),
@@ -35,7 +38,7 @@ pub enum Record<'a> {
 
 /// Whether a byte may stand in a line.
 pub fn is_allowed(byte: u8) -> bool {
-    matches!(byte, b'a'..=b'z' | b'0'..=b'9' | b'#' | b'.' | b'_' | b'\t')
+    matches!(byte, b'a'..=b'z' | b'0'..=b'9' | b'#' | b'.' | b'_' | b'\t' | b'(' | b')' | b',')
 }
 
 /// The record of a line without its line feed; None is refusal 5.
@@ -50,6 +53,10 @@ pub fn record_of(line: &[u8]) -> Option<Record<'_>> {
         (b"result", [name]) => Some(Record::Result(dotted_name(name)?)),
         (b"masked", []) => Some(Record::Masked),
         (b"output", names) => output_of(names),
+        (b"let", [name, formula]) => {
+            let formula = formula_of(formula)?;
+            Some(Record::Let(dotted_name(name)?, formula))
+        }
         (word, [name, operands @ ..]) => {
             let action = action_of(word, operands)?;
             Some(Record::Statement(dotted_name(name)?, action))
@@ -118,7 +125,7 @@ fn hex_digit(byte: u8) -> Option<u8> {
 }
 
 /// An operand: # and two digits, or a name.
-fn operand_of(field: &[u8]) -> Option<Operand<'_>> {
+pub fn operand_of(field: &[u8]) -> Option<Operand<'_>> {
     match field {
         [b'#', digits @ ..] => Some(Operand::Constant(hex_byte(digits)?)),
         _ => Some(Operand::Name(dotted_name(field)?)),
@@ -126,7 +133,7 @@ fn operand_of(field: &[u8]) -> Option<Operand<'_>> {
 }
 
 /// A name without a dot part: a letter, then up to 11 of a to z, 0 to 9 and _.
-fn plain_name(field: &[u8]) -> Option<&[u8]> {
+pub fn plain_name(field: &[u8]) -> Option<&[u8]> {
     let (first, rest) = field.split_first()?;
     let begins = first.is_ascii_lowercase();
     let goes_on = rest

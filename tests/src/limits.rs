@@ -14,6 +14,8 @@ pub const MOST_MAPS: usize = 8;
 pub const MOST_INPUTS: usize = 4;
 /// Statements of both blocks together.
 pub const MOST_STATEMENTS: usize = 256;
+/// Operations of a formula inside each other.
+pub const MOST_DEPTH: usize = 8;
 /// Shares of a value, and names on the output line.
 pub const MOST_SHARES: usize = 8;
 /// Characters of a name before its dot part.

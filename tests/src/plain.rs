@@ -2,6 +2,7 @@
 //! product merged, other terms inserted one at a time, bytes put in in place.
 
 mod field;
+mod formula;
 mod line;
 pub mod moves;
 mod names;
@@ -9,6 +10,7 @@ mod product;
 mod read;
 mod routine;
 mod search;
+mod statement;
 mod terms;
 mod values;
 
@@ -112,4 +114,26 @@ fn judge_routine(
         }
     }
     report
+}
+
+#[cfg(test)]
+mod tests {
+    use super::*;
+    use crate::compare::Comparison;
+    use crate::examples::examples;
+    use crate::texts::{faults, lets};
+
+    #[test]
+    fn stored_texts_are_judged_alike() {
+        let mut comparison = Comparison::new(&Plain::MergedRows, 1);
+        let mut texts = lets::cases();
+        texts.extend(faults::pairs());
+        for example in examples() {
+            texts.push((example.name.to_string(), example.text, 0));
+        }
+        for (name, text, _) in texts {
+            let checked = comparison.check(&text);
+            checked.unwrap_or_else(|wrong| panic!("{name}: {wrong}"));
+        }
+    }
 }

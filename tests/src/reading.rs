@@ -74,13 +74,16 @@ impl Reading {
         ask(content.iter().all(|byte| is_allowed(*byte)), 3)?;
         ask(ended.is_some(), 4)?;
         let record = record_of(content).ok_or(5u64)?;
+        let deep = matches!(&record, Record::Let(_, formula) if formula.depth > MOST_DEPTH);
+        ask(!deep, 13)?;
         self.stage = self.stage_after(&record).ok_or(6u64)?;
         match record {
             Record::Shares(count) => self.routine.shares = count,
             Record::Map(name, map) => self.take_map(name, map)?,
             Record::Input(name) => self.take_input(name)?,
             Record::Origin | Record::Masked => {}
-            Record::Statement(name, action) => self.take_statement(name, action, line)?,
+            Record::Statement(name, action) => self.take_steps(name, &[action], line)?,
+            Record::Let(name, formula) => self.take_steps(name, &formula.steps, line)?,
             Record::Result(name) => {
                 self.routine.result = *self.origin_names.get(name).ok_or(8u64)?
             }
@@ -97,10 +100,10 @@ impl Reading {
             (Stage::Maps | Stage::Inputs, Record::Input(_)) => Some(Stage::Inputs),
             (Stage::Maps | Stage::Inputs, Record::Origin) => Some(Stage::Origin),
             (Stage::Origin, Record::Statement(_, Action::Rand)) => None,
-            (Stage::Origin, Record::Statement(..)) => Some(Stage::Origin),
+            (Stage::Origin, Record::Statement(..) | Record::Let(..)) => Some(Stage::Origin),
             (Stage::Origin, Record::Result(_)) => Some(Stage::Result),
             (Stage::Result, Record::Masked) => Some(Stage::Masked),
-            (Stage::Masked, Record::Statement(..)) => Some(Stage::Masked),
+            (Stage::Masked, Record::Statement(..) | Record::Let(..)) => Some(Stage::Masked),
             (Stage::Masked, Record::Output(_)) => Some(Stage::Output),
             _ => None,
         }
@@ -133,34 +136,46 @@ impl Reading {
         Ok(())
     }
 
-    /// A statement gives its name in its block's set, once its operands are found there.
-    fn take_statement(&mut self, name: &[u8], action: Action, line: u64) -> Result<(), u64> {
-        let names = match self.stage {
-            Stage::Origin => &self.origin_names,
-            _ => &self.masked_names,
+    /// The operations of a line in their order, once their operands are found in the block's set;
+    /// the last one gives the name there, the others have none.
+    fn take_steps(&mut self, name: &[u8], steps: &[Action], line: u64) -> Result<(), u64> {
+        let routine = &self.routine;
+        let (names, begins, block) = match self.stage {
+            Stage::Origin => (&self.origin_names, routine.inputs, &routine.origin),
+            _ => (
+                &self.masked_names,
+                routine.inputs * routine.shares,
+                &routine.masked,
+            ),
         };
+        let first = begins + block.len();
         ask(!names.contains_key(name), 7)?;
-        let operation = self.operation_of(action, names).ok_or(8u64)?;
-        let count = self.routine.origin.len() + self.routine.masked.len();
-        let drawn = matches!(operation, Operation::Rand(_)) as usize;
-        ask(self.routine.variables + drawn <= MOST_VARIABLES, 9)?;
-        ask(count < MOST_STATEMENTS, 9)?;
+        let find = |step: &Action| self.operation_of(*step, names, first);
+        let operations: Option<Vec<Operation>> = steps.iter().map(find).collect();
+        let operations = operations.ok_or(8u64)?;
+        let count = routine.origin.len() + routine.masked.len() + operations.len();
+        let rands = |operation: &&Operation| matches!(operation, Operation::Rand(_));
+        let drawn = operations.iter().filter(rands).count();
+        ask(routine.variables + drawn <= MOST_VARIABLES, 9)?;
+        ask(count <= MOST_STATEMENTS, 9)?;
         self.routine.variables += drawn;
-        let statement = Statement { line, operation };
         let (names, block) = match self.stage {
             Stage::Origin => (&mut self.origin_names, &mut self.routine.origin),
             _ => (&mut self.masked_names, &mut self.routine.masked),
         };
-        names.insert(name.to_vec(), names.len());
-        block.push(statement);
+        names.insert(name.to_vec(), first + operations.len() - 1);
+        let statement = |operation| Statement { line, operation };
+        block.extend(operations.into_iter().map(statement));
         Ok(())
     }
 
-    /// The operation with its names found; None where one isn't given above.
-    fn operation_of(&self, action: Action, names: &Names) -> Option<Operation> {
+    /// The operation with its names found, on a line whose first value has this place; None where
+    /// a name isn't given above.
+    fn operation_of(&self, action: Action, names: &Names, first: usize) -> Option<Operation> {
         let find = |operand| match operand {
             Operand::Name(name) => names.get(name).copied().map(Source::Value),
             Operand::Constant(byte) => Some(Source::Byte(byte)),
+            Operand::Inner(at) => Some(Source::Value(first + at)),
         };
         Some(match action {
             Action::Set(a) => Operation::Set(find(a)?),

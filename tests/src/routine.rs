@@ -1,5 +1,5 @@
 //! The routine that an accepted text holds. Values are counted within each block: first those
-//! that the block begins with, then one for each statement.
+//! that the block begins with, then one for each statement, those of a let without a name too.
 
 use crate::maps::Map;
 

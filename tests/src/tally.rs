@@ -13,7 +13,8 @@ pub struct Tally {
     shown: u64,
     texts: u64,
     verdicts: [u64; 4],
-    refusals: [u64; 13],
+    refusals: [u64; 14],
+    unrolled: u64,
 }
 
 impl Tally {
@@ -24,7 +25,8 @@ impl Tally {
             shown: 0,
             texts: 0,
             verdicts: [0; 4],
-            refusals: [0; 13],
+            refusals: [0; 14],
+            unrolled: 0,
         }
     }
 
@@ -35,6 +37,7 @@ impl Tally {
         if outcome.report.verdict == Verdict::Refused {
             self.refusals[outcome.report.refusal as usize] += 1;
         }
+        self.unrolled += outcome.unrolled as u64;
         for number in &outcome.others {
             self.refusals[*number as usize] += 1;
         }
@@ -63,6 +66,7 @@ impl Tally {
         for (number, count) in self.refusals.iter().enumerate().skip(1) {
             println!("refusal {number:>2} {count:>10}");
         }
+        println!("unrolled   {:>10}", self.unrolled);
         let seconds = self.began.elapsed().as_secs_f64();
         println!("{} texts in {seconds:.1} s", self.texts);
         println!("{} texts, {differences} differences", self.texts);

@@ -1,3 +1,11 @@
 pub mod Each
 pub mod Fields
+pub mod Holding
 pub mod Fits
+pub mod Formula
+pub mod Measured
+pub mod Paired
+pub mod Written
+pub mod Spelt
+pub mod Sizes
+pub mod Made

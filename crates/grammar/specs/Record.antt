@@ -1,16 +1,17 @@
 -- The grammar of one line whose word is known: the number of its fields, and the form of each (refusal 5, from the
 -- line alone).
 use Prim.Native.Nat.{ℕ, _+_}
-use mathlib.Core.Bool.{cond}
+use mathlib.Core.Bool.{Bool, false, cond}
 use mathlib.Core.List.{List, [], _∷_}
 use mathlib.Core.Option.{Option, none, some}
-use lib.Dec.{eqb}
+use lib.Dec.{ltb, eqb}
 use lib.ListN.{length, getD, drop}
 use Rattle.tokens.specs.declared.word.Word.{Word}
-use Rattle.tokens.specs.declared.word.Word.the-variants.{Shares, Map, Input, Origin, Set, Xor, Mul, App, Rand}
-use Rattle.tokens.specs.declared.word.Word.the-variants.{Result, Masked, Output, Unknown}
+use Rattle.tokens.specs.declared.word.Word.the-variants.{Shares, Map, Input, Origin, Set, Xor, Mul, App, Let}
+use Rattle.tokens.specs.declared.word.Word.the-variants.{Rand, Result, Masked, Output, Unknown}
+use Rattle.grammar.specs.Formula.{Formula, depth, readFormula}
 use Rattle.tokens.specs.Ascii.{within}
-use Rattle.tokens.specs.Limits.{columnCount, mostShares}
+use Rattle.tokens.specs.Limits.{columnCount, mostShares, mostDepth}
 use Rattle.tokens.specs.Token.{_>>=_, Name, Term, readName, readPlain, readHex, readCount, readTerm}
 
 -- What a statement computes, as it is written.
@@ -27,6 +28,7 @@ pub data Record : Type 0 where
   input : Name → Record
   origin : Record
   assign : Name → Form → Record
+  letting : Name → Formula → Record
   result : Name → Record
   masked : Record
   output : List Name → Record
@@ -65,9 +67,23 @@ recordFor Xor ps = fields 3 ps (assigned ps (operands xor ps))
 recordFor Mul ps = fields 3 ps (assigned ps (operands mul ps))
 recordFor App ps =
     fields 3 ps (assigned ps (readPlain (field 2 ps) >>= λ f. readTerm (field 3 ps) >>= λ a. some (app f a)))
+recordFor Let ps =
+    fields 2 ps (readName (field 1 ps) >>= λ n. readFormula (field 2 ps) >>= λ f. some (letting n f))
 recordFor Rand ps = fields 1 ps (assigned ps (some rand))
 recordFor Result ps = fields 1 ps (readName (field 1 ps) >>= λ n. some (result n))
 recordFor Masked ps = fields 0 ps (some masked)
 recordFor Output ps =
     cond (within 2 (mostShares + 1) (length ps)) (each readName (drop 1 ps) >>= λ ns. some (output ns)) none
 recordFor Unknown ps = none
+
+-- 13: nesting above 8
+unfoldable pub nests : Record → Bool
+nests (shares k) = false
+nests (map n c columns) = false
+nests (input n) = false
+nests origin = false
+nests (assign n f) = false
+nests (letting n f) = ltb mostDepth (depth f)
+nests (result n) = false
+nests masked = false
+nests (output ns) = false

@@ -14,8 +14,8 @@ use Rattle.grammar.specs.declared.line.NameRead.{NameRead}
 use Rattle.grammar.specs.declared.lists.Columns.{Columns}
 use Rattle.grammar.specs.declared.lists.Outputs.{Outputs}
 use Rattle.grammar.specs.declared.record.Rec.{Rec}
-use Rattle.grammar.specs.declared.record.Rec.the-variants.{Bad, Shares, Map, Input, Origin, Assign, Result}
-use Rattle.grammar.specs.declared.record.Rec.the-variants.{Masked, Output}
+use Rattle.grammar.specs.declared.record.Rec.the-variants.{Bad, Shares, Map, Input, Origin, Assign, Let}
+use Rattle.grammar.specs.declared.record.Rec.the-variants.{Result, Masked, Output}
 use Rattle.grammar.specs.declared.record.FormRead.{FormRead}
 use Rattle.grammar.specs.declared.record.FormRead.the-variants.{Set, Two, App, Rand}
 use Rattle.grammar.specs.declared.record.Binary.{Binary}
@@ -23,13 +23,19 @@ use Rattle.grammar.specs.declared.record.Binary.the-variants as Binary
 use Rattle.tokens.specs.Limits.{columnCount, mostShares}
 use Rattle.tokens.specs.Token.{_>>=_, Name, Term, readHex, readName}
 use Rattle.grammar.specs.Line.{nameIn}
-use Rattle.grammar.specs.Record.{Record, shares, map, input, origin, assign, result, masked, output}
-use Rattle.grammar.specs.Record.{Form, set, xor, mul, app, rand, each, fields, assigned, operands, recordFor}
+use Rattle.grammar.specs.Formula.{Formula, readFormula}
+use Rattle.grammar.specs.Record.{Record, shares, map, input, origin, assign, letting, result, masked, output}
+use Rattle.grammar.specs.Record.{Form, set, xor, mul, app, rand, each, field, fields, assigned, operands}
+use Rattle.grammar.specs.Record.{recordFor}
 use Rattle.grammar.specs.Line.{piecesIn, fieldIn, nameAt, termAt}
 
 -- the columns of a map line, where it has the word, a name, a constant and eight fields more
 unfoldable pub columnsOf : List (List ℕ) → Option (List ℕ)
 columnsOf ps = cond (eqb (length ps) (3 + columnCount)) (each readHex (drop 3 ps)) none
+
+-- the formula of a line that has the word, a name and one field more
+unfoldable pub formulaOf : List (List ℕ) → Option Formula
+formulaOf ps = cond (eqb (length ps) 3) (readFormula (field 2 ps)) none
 
 -- the names of an output line, where there are 1 to 8 of them
 unfoldable pub namesOf : List (List ℕ) → Option (List Name)
@@ -55,6 +61,10 @@ assignIn s x f = formAt s f >>= λ y. some (assign x y)
 abbrev pub mapIn : Name → ℕ → Option (List ℕ) → Option Record
 mapIn x v o = o >>= λ columns. some (map x v columns)
 
+-- a formula that gives x
+abbrev pub letIn : Name → Option Formula → Option Record
+letIn x o = o >>= λ f. some (letting x f)
+
 -- the record that the code's record stands for, or none
 unfoldable pub recordIn : List ℕ → List (List ℕ) → Rec → Option Record
 recordIn s ps Bad = none
@@ -63,6 +73,7 @@ recordIn s ps (Map n c) = nameAt s n >>= λ x. numberAt c >>= λ v. mapIn x v (c
 recordIn s ps (Input n) = nameAt s n >>= λ x. some (input x)
 recordIn s ps Origin = some origin
 recordIn s ps (Assign n f) = nameAt s n >>= λ x. assignIn s x f
+recordIn s ps (Let n) = nameAt s n >>= λ x. letIn x (formulaOf ps)
 recordIn s ps (Result n) = nameAt s n >>= λ x. some (result x)
 recordIn s ps Masked = some masked
 recordIn s ps Output = namesOf ps >>= λ xs. some (output xs)

@@ -4,6 +4,7 @@ use crate::line::Line;
 use crate::line::NameRead;
 use crate::line::TermRead;
 use tokens::bytes::TAB;
+use tokens::limits::LET_PIECES;
 use tokens::limits::MAP_PIECES;
 use tokens::limits::MOST_PIECES;
 use tokens::split;
@@ -29,8 +30,8 @@ pub enum FormRead {
     Rand,
 }
 
-// A record with its names by place. The columns of a map and the names of an output stay in the
-// line.
+// A record with its names by place. The columns of a map, the formula of a `let` and the names of
+// an output stay in the line.
 pub enum Rec {
     Bad,
     Shares(Number),
@@ -38,6 +39,7 @@ pub enum Rec {
     Input(NameRead),
     Origin,
     Assign(NameRead, FormRead),
+    Let(NameRead),
     Result(NameRead),
     Masked,
     Output,
@@ -57,6 +59,7 @@ pub fn record(s: &[u8], l: Line, w: Word) -> Rec
         Word::Xor => two_record(s, l, Binary::Xor),
         Word::Mul => two_record(s, l, Binary::Mul),
         Word::App => app_record(s, l),
+        Word::Let => let_record(s, l),
         Word::Rand => {
             let n = only_name(s, l);
             Rec::Assign(n, FormRead::Rand)
@@ -164,6 +167,18 @@ pub fn app_record(s: &[u8], l: Line) -> Rec
     let f = line::plain_field(s, l, 2);
     let a = line::term_field(s, l, 3);
     Rec::Assign(n, FormRead::App(f, a))
+}
+
+// `let`, a name and a formula.
+pub fn let_record(s: &[u8], l: Line) -> Rec
+    requires { ⌜ Inside (now s) l ⌝ }
+    ensures { λ r. ⌜ Reads (now (s .entry)) l r word.Let ⌝ }
+{
+    if piece_count(s, l) != LET_PIECES {
+        return Rec::Bad;
+    }
+    let n = line::name_field(s, l, 1);
+    Rec::Let(n)
 }
 
 // `rand` or `result`: the name of a line with one field.

@@ -4,6 +4,7 @@ use mathlib.Core.Path.{_≡_}
 use mathlib.Core.Bool.{Bool, true, false, _&&_}
 use mathlib.Core.List.{List}
 use mathlib.Core.Option.{Option, none, some}
+use lib.Dec.{ltb}
 use lib.ListN.{length}
 use denote.Ref.{RefT, now}
 use Rattle.tokens.specs.declared.token.Number.{Number}
@@ -20,15 +21,12 @@ use Rattle.grammar.specs.declared.record.FormRead.the-variants as FormRead
 use Rattle.reader.specs.declared.handed.Handed.{Handed}
 use Rattle.reader.specs.declared.handed.Handed.the-variants as Handed
 use Rattle.reader.specs.declared.reader.Reader.{Reader}
-use Rattle.tokens.specs.Token.{_>>=_}
+use Rattle.tokens.specs.Limits.{mostDepth}
+use Rattle.tokens.specs.Token.{_>>=_, isSome}
 use Rattle.grammar.specs.Line.{piecesIn}
-use Rattle.grammar.specs.Recorded.{recordIn, columnsOf, namesOf}
+use Rattle.grammar.specs.Formula.{Formula, depth}
+use Rattle.grammar.specs.Recorded.{recordIn, columnsOf, formulaOf, namesOf}
 use Rattle.reader.specs.Reader.{Given, given, refused, ended, lastGiven, recordAhead, placeBehind}
-
--- there is one
-abbrev pub isSome : {A : Type 0} → Option A → Bool
-isSome none = false
-isSome (some a) = true
 
 -- the name was read
 abbrev pub hasName : NameRead → Bool
@@ -61,9 +59,28 @@ hasFields ps (Rec.Map n c) = hasName n && (hasNumber c && isSome (columnsOf ps))
 hasFields ps (Rec.Input n) = hasName n
 hasFields ps Rec.Origin = true
 hasFields ps (Rec.Assign n f) = hasName n && hasForm f
+hasFields ps (Rec.Let n) = hasName n && isSome (formulaOf ps)
 hasFields ps (Rec.Result n) = hasName n
 hasFields ps Rec.Masked = true
 hasFields ps Rec.Output = isSome (namesOf ps)
+
+-- the formula nests above 8
+abbrev pub deep : Option Formula → Bool
+deep none = false
+deep (some f) = ltb mostDepth (depth f)
+
+-- a record nests above 8; ps are the pieces of its line
+abbrev pub nestsIn : List (List ℕ) → Rec → Bool
+nestsIn ps Rec.Bad = false
+nestsIn ps (Rec.Shares k) = false
+nestsIn ps (Rec.Map n c) = false
+nestsIn ps (Rec.Input n) = false
+nestsIn ps Rec.Origin = false
+nestsIn ps (Rec.Assign n f) = false
+nestsIn ps (Rec.Let n) = deep (formulaOf ps)
+nestsIn ps (Rec.Result n) = false
+nestsIn ps Rec.Masked = false
+nestsIn ps Rec.Output = false
 
 -- what the code's answer stands for in the text; a record that was not read whole stands for nothing
 abbrev pub givenIn : List ℕ → Handed → Option Given

@@ -12,7 +12,7 @@ use Rattle.reader.specs.declared.cursor.Ahead.{Ahead}
 use Rattle.reader.specs.declared.cursor.Ahead.the-variants as Ahead
 use Rattle.tokens.specs.Ascii.{all, allowed}
 use Rattle.grammar.specs.Line.{piecesIn, fieldIn}
-use Rattle.grammar.specs.Record.{Record, recordFor}
+use Rattle.grammar.specs.Record.{Record, recordFor, nests}
 use Rattle.tokens.specs.Word.{wordOf}
 use Rattle.reader.specs.Cursor.{lookAt}
 
@@ -35,10 +35,10 @@ pub data Given : Type 0 where
   refused : ℕ → Cursor → Given
   ended : Given
 
--- the record of line l, or refusal 5 where it makes none; c is behind it
+-- the record of line l, or refusal 5 where it makes none, or 13 where it nests above 8; c is behind it
 abbrev pub formed : Line → Cursor → Option Record → Given
 formed l c none = refused 5 c
-formed l c (some r) = given l r c
+formed l c (some r) = cond (nests r) (refused 13 c) (given l r c)
 
 -- the bytes of a line
 abbrev pub bytesOf : List ℕ → Line → List ℕ

@@ -1,17 +1,21 @@
-// Whether every field of a record was read: refusal 5 is given where one was not.
+// Whether every field of a record was read: refusal 5 is given where one was not; and whether it
+// nests above 8: refusal 13.
+use grammar::formula;
 use grammar::line::Line;
 use grammar::line::NameRead;
 use grammar::line::TermRead;
 use grammar::lists;
 use grammar::record::FormRead;
 use grammar::record::Rec;
+use tokens::limits::MOST_DEPTH;
 use tokens::token::Number;
 ghost use mathlib.Core.Path.{_≡_};
 ghost use mathlib.Core.Bool.{_&&_};
 ghost use Rattle.grammar.specs.Line.{Inside, piecesIn};
-ghost use Rattle.grammar.specs.Recorded.{columnsOf, namesOf};
-ghost use Rattle.reader.specs.Handed.{isSome, hasName, hasTerm, hasNumber};
-ghost use Rattle.reader.specs.Handed.{hasForm, hasFields};
+ghost use Rattle.tokens.specs.Token.{isSome};
+ghost use Rattle.grammar.specs.Recorded.{columnsOf, formulaOf, namesOf};
+ghost use Rattle.reader.specs.Handed.{hasName, hasTerm, hasNumber};
+ghost use Rattle.reader.specs.Handed.{hasForm, hasFields, deep, nestsIn};
 
 // Every field of the record of line l was read.
 pub fn has_fields(s: &[u8], l: Line, r: Rec) -> bool
@@ -25,6 +29,7 @@ pub fn has_fields(s: &[u8], l: Line, r: Rec) -> bool
         Rec::Input(n) => has_name(n),
         Rec::Origin => true,
         Rec::Assign(n, f) => both(has_name(n), has_form(f)),
+        Rec::Let(n) => both(has_name(n), has_formula(s, l)),
         Rec::Result(n) => has_name(n),
         Rec::Masked => true,
         Rec::Output => has_outputs(s, l),
@@ -40,6 +45,15 @@ pub fn has_columns(s: &[u8], l: Line) -> bool
     columns.ok
 }
 
+// The formula of a line was read.
+pub fn has_formula(s: &[u8], l: Line) -> bool
+    requires { ⌜ Inside (now s) l ⌝ }
+    ensures { λ b. ⌜ b ≡ isSome (formulaOf (piecesIn (now (s .entry)) l)) ⌝ }
+{
+    let f = formula::line_formula(s, l);
+    f.ok
+}
+
 // The names of an output line were read.
 pub fn has_outputs(s: &[u8], l: Line) -> bool
     requires { ⌜ Inside (now s) l ⌝ }
@@ -47,6 +61,37 @@ pub fn has_outputs(s: &[u8], l: Line) -> bool
 {
     let names = lists::read_outputs(s, l);
     names.ok
+}
+
+// The record of line l nests above 8.
+pub fn nests(s: &[u8], l: Line, r: Rec) -> bool
+    requires { ⌜ Inside (now s) l ⌝ }
+    ensures { λ b. ⌜ b ≡ nestsIn (piecesIn (now (s .entry)) l) r ⌝ }
+{
+    match r {
+        Rec::Bad => false,
+        Rec::Shares(k) => false,
+        Rec::Map(n, c) => false,
+        Rec::Input(n) => false,
+        Rec::Origin => false,
+        Rec::Assign(n, f) => false,
+        Rec::Let(n) => too_deep(s, l),
+        Rec::Result(n) => false,
+        Rec::Masked => false,
+        Rec::Output => false,
+    }
+}
+
+// The formula of a line nests above 8.
+pub fn too_deep(s: &[u8], l: Line) -> bool
+    requires { ⌜ Inside (now s) l ⌝ }
+    ensures { λ b. ⌜ b ≡ deep (formulaOf (piecesIn (now (s .entry)) l)) ⌝ }
+{
+    let f = formula::line_formula(s, l);
+    if f.ok {
+        return MOST_DEPTH < f.depth;
+    }
+    false
 }
 
 // Every operand of a statement was read.

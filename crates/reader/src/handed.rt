@@ -26,7 +26,7 @@ pub enum Handed {
     End,
 }
 
-// The record ahead of a place, or its refusal 3, 4 or 5, or the end.
+// The record ahead of a place, or its refusal 3, 4, 5 or 13, or the end.
 pub fn hand_out(s: &[u8], at: usize, line: usize) -> Handed
     ensures { λ r. ⌜ HandedIs (now (s .entry)) at line r ⌝ }
 {
@@ -67,6 +67,9 @@ pub fn hand_line(s: &[u8], l: Line, c: Cursor) -> Handed
         let w = word::word_of(split::part(s, f.at, f.len));
         let r = record::record(s, l, w);
         if formed::has_fields(s, l, r) {
+            if formed::nests(s, l, r) {
+                return Handed::Refused(13, c);
+            }
             return Handed::Record(l, r, c);
         }
         return Handed::Refused(5, c);

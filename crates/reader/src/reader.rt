@@ -23,7 +23,7 @@ pub fn open<'a>(text: &'a [u8]) -> Reader<'a>
     }
 }
 
-// The record ahead of the reader, or its refusal 3, 4 or 5, or the end.
+// The record ahead of the reader, or its refusal 3, 4, 5 or 13, or the end.
 pub fn next<'a>(r: Reader<'a>) -> Handed
     ensures { λ h. ⌜ HandedIs (now (r .entry .text)) (r .entry .at) (r .entry .line) h ⌝ }
 {

@@ -12,13 +12,16 @@ use Rattle.text.specs.declared.types.AffineMap.{AffineMap}
 use Rattle.text.specs.declared.names.Names.{Names}
 use Rattle.text.specs.declared.known.Known.{Known}
 use Rattle.text.specs.declared.step.Put.{Put}
-use Rattle.text.specs.declared.step.Put.the-variants.{Nothing, Map, Input, Stated}
+use Rattle.text.specs.declared.step.Put.the-variants.{Nothing, Map, Input, Stated, Let}
 use Rattle.text.specs.declared.step.Step.{Step}
 use Rattle.text.specs.Order.{atStart, inMasked}
 use Rattle.text.specs.State.{State}
 use Rattle.text.specs.Limits.{mostMaps, mostInputs, mostVariables, mostStatements, mostNumbers}
 use Rattle.text.specs.Limits.{originFrom, maskedFrom}
 use Rattle.text.specs.Names.{namesIn, put, putShares}
+use Rattle.text.specs.Lets.{fieldOf, statementsOf, setAll, putLet, LetFits, LetRead}
+use Rattle.text.specs.declared.step.Letting.{Letting}
+use Rattle.grammar.specs.Formula.{readFormula}
 
 -- the arrays of the reading loop, beside its table of names
 pub record Arrays : Type 0 where
@@ -213,6 +216,7 @@ Fits k Nothing = Unit {0}
 Fits k (Map x) = k .mapped < mostMaps
 Fits k (Input x) = InputFits k
 Fits k (Stated x st) = k .origin + k .masked < mostStatements
+Fits k (Let x f) = LetFits k (f .count)
 
 -- ---- what is stored; k is what was known above the record
 
@@ -234,6 +238,7 @@ tableAfter t k Nothing = t
 tableAfter t k (Map x) = put t (k .mapped) x
 tableAfter t k (Input x) = putShares (put t (originFrom + k .wholes) x) (maskedFrom + k .parts) x (k .shares)
 tableAfter t k (Stated x st) = put t (nameSlot k) x
+tableAfter t k (Let x f) = putLet t (nameSlot k) x (f .count)
 
 -- the statement behind a record, where st stood: the one that it gives, or st
 abbrev pub statementAfter : Put → Statement → Statement
@@ -241,6 +246,7 @@ statementAfter Nothing st = st
 statementAfter (Map x) st = st
 statementAfter (Input x) st = st
 statementAfter (Stated x given) st = given
+statementAfter (Let x l) st = st
 
 -- the map behind a record, where f stood: the one that it gives, or f
 abbrev pub mapAfter : Put → AffineMap → AffineMap → AffineMap
@@ -248,20 +254,36 @@ mapAfter Nothing g f = f
 mapAfter (Map x) g f = g
 mapAfter (Input x) g f = f
 mapAfter (Stated x given) g f = f
+mapAfter (Let x l) g f = f
+
+-- the statements of a `let`, its field in the text s and the names above it in the table t
+abbrev pub letStatements : List ℕ → List ℕ → Known → Letting → List Statement
+letStatements s t k f =
+    statementsOf (f .line) (namesIn s t (blockNames k)) (namesIn s t (mapNames k)) (readFormula (fieldOf s f))
+
+-- a `let` is one whose formula was read
+abbrev pub LetsRead : List ℕ → List ℕ → Known → Put → Type 0
+LetsRead s t k Nothing = Unit {0}
+LetsRead s t k (Map x) = Unit {0}
+LetsRead s t k (Input x) = Unit {0}
+LetsRead s t k (Stated x st) = Unit {0}
+LetsRead s t k (Let x f) = LetRead s (namesIn s t (blockNames k)) (namesIn s t (mapNames k)) f
 
 -- the arrays behind a record, g being the map that it may give
-abbrev pub arraysAfter : Arrays → Known → Put → AffineMap → Arrays
-arraysAfter a k Nothing g = a
-arraysAfter a k (Map x) g = record { maps = set (a .maps) (k .mapped) g; statements = a .statements }
-arraysAfter a k (Input x) g = a
-arraysAfter a k (Stated x st) g =
+abbrev pub arraysAfter : List ℕ → List ℕ → Arrays → Known → Put → AffineMap → Arrays
+arraysAfter s t a k Nothing g = a
+arraysAfter s t a k (Map x) g = record { maps = set (a .maps) (k .mapped) g; statements = a .statements }
+arraysAfter s t a k (Input x) g = a
+arraysAfter s t a k (Stated x st) g =
     record { maps = a .maps; statements = set (a .statements) (k .origin + k .masked) st }
+arraysAfter s t a k (Let x f) g =
+    record { maps = a .maps; statements = setAll (a .statements) (k .origin + k .masked) (letStatements s t k f) }
 
--- all that the loop holds behind a step
-unfoldable pub after : Kept → Step → Kept
-after h r =
+-- all that the loop holds behind a step; s is the text
+unfoldable pub after : List ℕ → Kept → Step → Kept
+after s h r =
     record {
       names = tableAfter (h .names) (h .known) (r .put);
       known = r .known;
-      arrays = arraysAfter (h .arrays) (h .known) (r .put) (r .map);
+      arrays = arraysAfter s (h .names) (h .arrays) (h .known) (r .put) (r .map);
     }

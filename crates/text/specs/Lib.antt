@@ -6,8 +6,11 @@ pub mod Scope
 pub mod Read
 pub mod Names
 pub mod Routine
-pub mod Known
 pub mod Found
+pub mod Compiled
+pub mod Decoded
+pub mod Lets
+pub mod Known
 pub mod Taken
 pub mod Reading
 pub mod From

@@ -3,8 +3,8 @@ use Prim.Native.Nat.{ℕ}
 use mathlib.Core.Bool.{Bool, false, _||_}
 use lib.Dec.{eqb}
 use Rattle.tokens.specs.declared.word.Word.{Word}
-use Rattle.tokens.specs.declared.word.Word.the-variants.{Shares, Map, Input, Origin, Set, Xor, Mul, App, Rand, Result}
-use Rattle.tokens.specs.declared.word.Word.the-variants.{Masked, Output, Unknown}
+use Rattle.tokens.specs.declared.word.Word.the-variants.{Shares, Map, Input, Origin, Set, Xor, Mul, App, Let, Rand}
+use Rattle.tokens.specs.declared.word.Word.the-variants.{Result, Masked, Output, Unknown}
 
 -- nothing is read yet
 abbrev pub atStart : ℕ
@@ -44,6 +44,7 @@ mayStand Set stage = eqb stage inOrigin || eqb stage inMasked
 mayStand Xor stage = eqb stage inOrigin || eqb stage inMasked
 mayStand Mul stage = eqb stage inOrigin || eqb stage inMasked
 mayStand App stage = eqb stage inOrigin || eqb stage inMasked
+mayStand Let stage = eqb stage inOrigin || eqb stage inMasked
 mayStand Rand stage = eqb stage inMasked
 mayStand Result stage = eqb stage inOrigin
 mayStand Masked stage = eqb stage atResult
@@ -60,6 +61,7 @@ stageAfter Set stage = stage
 stageAfter Xor stage = stage
 stageAfter Mul stage = stage
 stageAfter App stage = stage
+stageAfter Let stage = stage
 stageAfter Rand stage = stage
 stageAfter Result stage = atResult
 stageAfter Masked stage = inMasked

@@ -10,7 +10,7 @@ use Rattle.text.specs.declared.types.Statement.{Statement}
 use Rattle.text.specs.declared.types.AffineMap.{AffineMap}
 use Rattle.tokens.specs.Ascii.{all, allowed, tab, lineFeed}
 use Rattle.tokens.specs.Split.{pieces}
-use Rattle.grammar.specs.Record.{Record, field, recordFor}
+use Rattle.grammar.specs.Record.{Record, field, recordFor, nests}
 use Rattle.tokens.specs.Word.{wordOf}
 use Rattle.text.specs.Limits.{mostBytes}
 use Rattle.text.specs.Order.{mayStand, stageAfter, atEnd}
@@ -61,7 +61,8 @@ takeRecord s n w none = stop 5
 takeRecord s n w (some r) =
     unless
     (firstOf
-    ((6, not (mayStand w (s .stage)))
+    ((13, nests r)
+    ∷ (6, not (mayStand w (s .stage)))
     ∷ (7, repeats s r)
     ∷ (8, readsUnknown s r)
     ∷ (9, exceeds s r)

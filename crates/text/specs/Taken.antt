@@ -1,7 +1,7 @@
 -- One record by its faults and what it adds, before its stage; and the code's step. Assumes nothing.
 use Prim.Native.Nat.{ℕ}
 use mathlib.Core.Path.{_≡_}
-use mathlib.Core.Bool.{Bool, true, not}
+use mathlib.Core.Bool.{Bool, true, not, cond}
 use mathlib.Core.List.{List, [], _∷_}
 use mathlib.Core.Option.{Option, none, some}
 use Rattle.text.specs.declared.known.Known.{Known}
@@ -17,12 +17,12 @@ use Rattle.grammar.specs.declared.record.Rec.{Rec}
 use Rattle.grammar.specs.declared.record.Rec.the-variants as Rec
 use Rattle.tokens.specs.Limits.{columnCount}
 use Rattle.grammar.specs.Line.{piecesIn, nameIn}
-use Rattle.grammar.specs.Record.{Record, recordFor}
+use Rattle.grammar.specs.Record.{Record, recordFor, nests}
 use Rattle.grammar.specs.Recorded.{recordIn, mapIn, columnsOf, assignIn}
 use Rattle.text.specs.State.{State}
 use Rattle.text.specs.Scope.{repeats, readsUnknown, exceeds, miscounts, added}
 use Rattle.text.specs.Read.{firstOf, Outcome, stop, unless, takeRecord, takeLine}
-use Rattle.text.specs.Known.{Arrays, Kept, kept, stateIn, Sound, Sized, Fits, after}
+use Rattle.text.specs.Known.{Arrays, Kept, kept, stateIn, Sound, Sized, Fits, LetsRead, after}
 
 -- the number of the first fault, by the answers of the five tests; the first is whether the record may stand here
 unfoldable pub firstFault : Bool → Bool → Bool → Bool → Bool → ℕ
@@ -30,7 +30,9 @@ firstFault stands a b c d = firstOf ((6, not stands) ∷ (7, a) ∷ (8, b) ∷ (
 
 -- the number of the first fault of a record, by what is known above it
 unfoldable pub faultOf : State → Bool → Record → ℕ
-faultOf st stands r = firstFault stands (repeats st r) (readsUnknown st r) (exceeds st r) (miscounts st r)
+faultOf st stands r =
+    cond (nests r) 13
+    (firstFault stands (repeats st r) (readsUnknown st r) (exceeds st r) (miscounts st r))
 
 -- `takeRecord`, before its stage
 unfoldable pub takes : State → ℕ → Bool → Option Record → Outcome
@@ -44,7 +46,7 @@ stepOf e k p =
 
 -- what a step leads to
 unfoldable pub outcomeIn : List ℕ → Kept → Step → Outcome
-outcomeIn s h r = unless (r .refusal) (stateIn s (after h r))
+outcomeIn s h r = unless (r .refusal) (stateIn s (after s h r))
 
 -- whatever the arrays hold, the step leads from the state with them to what f says of that state
 abbrev pub Led : List ℕ → List ℕ → Known → Step → (State → Outcome) → Type 0
@@ -57,6 +59,7 @@ pub record Took (s t : List ℕ) (k : Known) (n : ℕ) (stands : Bool) (o : Opti
   pub stage : r .known .stage ≡ k .stage
   pub sound : Sound (r .known)
   pub fits : Fits k (r .put)
+  pub lets : LetsRead s t k (r .put)
   pub stood : r .refusal ≡ 0 → stands ≡ true
 
 -- taking the code's record r of line n
@@ -90,6 +93,7 @@ pub record Leads (s t : List ℕ) (k : Known) (r : Step) (f : State → Outcome)
   pub outcome : Led s t k r f
   pub sound : Sound (r .known)
   pub fits : Fits k (r .put)
+  pub lets : LetsRead s t k (r .put)
 
 -- what the record of line n leads to, its word known
 abbrev pub RecordLeads : List ℕ → List ℕ → Known → Line → ℕ → Word → Step → Type 0

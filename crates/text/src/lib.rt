@@ -1,7 +1,9 @@
 // A text becomes a routine or a refusal: the order of records, the sets of names, the limits.
 pub mod assign;
+pub mod compile;
 pub mod declare;
 pub mod known;
+pub mod letting;
 pub mod limits;
 pub mod names;
 pub mod order;

@@ -7,6 +7,7 @@ use crate::limits::ORIGIN_FROM;
 use crate::step::Put;
 use grammar::line::NameRef;
 use tokens::bytes;
+use tokens::limits::NO_PART;
 use tokens::split;
 ghost use mathlib.Core.Path.{_≡_};
 ghost use Prim.Native.Nat.{_+_, _≤_, _<_};
@@ -14,6 +15,7 @@ ghost use lib.ListN.{length};
 ghost use Rattle.tokens.specs.Ascii.{sameBytes};
 ghost use Rattle.text.specs.Limits.{mostEntries, mostNumbers};
 ghost use Rattle.text.specs.Names.{Within, EntryIs, PlaceIs, put as putIn, putShares};
+ghost use Rattle.text.specs.Lets.{putNameless, putLet};
 ghost use Rattle.text.specs.Known.{Sound, Fits, tableAfter};
 
 // A table of names: where each stands, its length and its part.
@@ -109,6 +111,33 @@ pub(crate) fn put_shares(t: &mut Table, at: usize, x: NameRef, k: usize)
     }
 }
 
+// Stores n entries without a name from `at` on.
+pub(crate) fn put_nameless(t: &mut Table, at: usize, n: usize)
+    requires { ⌜ at + n ≤ mostEntries ⌝ }
+    ensures { λ r. ⌜ now (t .exit) ≡ putNameless (now (t .entry)) at n ⌝ }
+{
+    let mut i = 0;
+    while i < n {
+        let none = NameRef {
+            at: 0,
+            len: 0,
+            part: NO_PART,
+        };
+        put(t, at + i, none);
+        i += 1;
+    }
+}
+
+// Stores the names of a formula's n values from `at` on: the last has the name x.
+pub(crate) fn put_let(t: &mut Table, at: usize, x: NameRef, n: usize)
+    requires { ⌜ (1 ≤ n) × (at + n ≤ mostEntries) ⌝ }
+    ensures { λ r. ⌜ now (t .exit) ≡ putLet (now (t .entry)) at x n ⌝ }
+{
+    let inner = n - 1;
+    put_nameless(t, at, inner);
+    put(t, at + inner, x);
+}
+
 // Stores the names that a record gives; k is what was known above it.
 pub(crate) fn store(t: &mut Table, k: Known, p: Put)
     requires { ⌜ Sound k × Fits k p ⌝ }
@@ -124,6 +153,10 @@ pub(crate) fn store(t: &mut Table, k: Known, p: Put)
         Put::Stated(x, st) => {
             let at = name_slot(k);
             put(t, at, x);
+        }
+        Put::Let(x, f) => {
+            let at = name_slot(k);
+            put_let(t, at, x, f.count);
         }
     }
 }

@@ -1,6 +1,7 @@
 // A text: the routine that it holds, or its refusal.
 use crate::known;
 use crate::known::Known;
+use crate::letting;
 use crate::limits::MOST_BYTES;
 use crate::limits::MOST_MAPS;
 use crate::limits::MOST_STATEMENTS;
@@ -193,6 +194,11 @@ pub(crate) fn read_lines(s: &[u8], from: Cursor) -> Reading
                 let st = statements[i];
                 let given = step::statement_after(put, st);
                 statements[i] = given;
+                let formula = step.put;
+                if let Put::Let(x, f) = formula {
+                    let more = letting::store_let(s, &table, k, f, statements);
+                    statements = more;
+                }
                 let j = known::map_slot(k);
                 let f = maps[j];
                 let map = step.map;

@@ -9,12 +9,22 @@ ghost use mathlib.Core.Bool.{_&&_, _||_};
 ghost use Rattle.text.specs.Known.{statementAfter, mapAfter};
 ghost use Rattle.text.specs.Taken.{firstFault, stepOf};
 
-// What a record gives: nothing, a map with its name, an input's name, or a statement with its name.
+// A formula: where its field stands, how many statements it counts as, and its line.
+pub struct Letting {
+    pub at: usize,
+    pub len: usize,
+    pub count: usize,
+    pub line: usize,
+}
+
+// What a record gives: nothing, a map with its name, an input's name, a statement with its name, or
+// a formula with its name.
 pub enum Put {
     Nothing,
     Map(NameRef),
     Input(NameRef),
     Stated(NameRef, Statement),
+    Let(NameRef, Letting),
 }
 
 // A refusal's number, or 0 with what is known behind and what is to be stored; the map stands
@@ -51,6 +61,7 @@ pub(crate) fn statement_after(p: Put, st: Statement) -> Statement
         Put::Map(x) => st,
         Put::Input(x) => st,
         Put::Stated(x, given) => given,
+        Put::Let(x, l) => st,
     }
 }
 
@@ -63,6 +74,7 @@ pub(crate) fn map_after(p: Put, g: AffineMap, f: AffineMap) -> AffineMap
         Put::Map(x) => g,
         Put::Input(x) => f,
         Put::Stated(x, given) => f,
+        Put::Let(x, l) => f,
     }
 }
 

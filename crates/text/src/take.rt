@@ -4,6 +4,7 @@ use crate::declare::take_input;
 use crate::declare::take_map;
 use crate::declare::take_shares;
 use crate::known::Known;
+use crate::letting::take_let;
 use crate::limits::MASKED_FROM;
 use crate::limits::ORIGIN_FROM;
 use crate::names::Names;
@@ -48,6 +49,7 @@ pub(crate) fn take_any(
         Rec::Input(x) => take_input(s, t, k, x, stands),
         Rec::Origin => take_mark(k, stands),
         Rec::Assign(x, f) => take_statement(s, t, k, n, x, f, stands),
+        Rec::Let(x) => take_let(s, t, k, l, n, x, stands),
         Rec::Result(x) => take_result(s, t, k, x, stands),
         Rec::Masked => take_mark(k, stands),
         Rec::Output => take_output(s, t, k, l, stands),

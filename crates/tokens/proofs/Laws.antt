@@ -2,3 +2,9 @@ pub mod Scan
 pub mod Pieces
 pub mod Answers
 pub mod Same
+pub mod Flags
+pub mod Some
+pub mod Joined
+pub mod Written
+pub mod Terms
+pub mod Numbered

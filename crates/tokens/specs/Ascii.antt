@@ -31,6 +31,18 @@ dot = 46
 abbrev pub underscore : ℕ
 underscore = 95
 
+-- (
+abbrev pub opening : ℕ
+opening = 40
+
+-- )
+abbrev pub closing : ℕ
+closing = 41
+
+-- ,
+abbrev pub comma : ℕ
+comma = 44
+
 -- low to high, both ends with
 abbrev pub within : ℕ → ℕ → ℕ → Bool
 within low high b = leb low b && leb b high
@@ -47,9 +59,13 @@ isDigit b = within 48 57 b
 unfoldable pub isNameByte : ℕ → Bool
 isNameByte b = isLetter b || isDigit b || eqb b underscore
 
+-- the bytes that part a formula: ( ) and comma
+unfoldable pub isMark : ℕ → Bool
+isMark b = eqb b opening || eqb b closing || eqb b comma
+
 -- the bytes that refusal 3 lets stand in a line
 unfoldable pub allowed : ℕ → Bool
-allowed b = isNameByte b || eqb b hash || eqb b dot || eqb b tab
+allowed b = isNameByte b || eqb b hash || eqb b dot || eqb b tab || isMark b
 
 -- every element passes the test
 unfoldable pub all {ℓ} : {A : Type ℓ} → (A → Bool) → List A → Bool

@@ -13,6 +13,10 @@ mostShares = 8
 abbrev pub columnCount : ℕ
 columnCount = 8
 
+-- the deepest nesting of a formula
+abbrev pub mostDepth : ℕ
+mostDepth = 8
+
 -- stands for the digit of a name without a dot part
 abbrev pub noPart : ℕ
 noPart = 8

@@ -15,6 +15,11 @@ abbrev pub _>>=_ : {A B : Type 0} → Option A → (A → Option B) → Option B
 none >>= f = none
 some a >>= f = f a
 
+-- the field has its form
+abbrev pub isSome : {A : Type 0} → Option A → Bool
+isSome none = false
+isSome (some a) = true
+
 -- a field of its form, where the test holds
 abbrev pub provided : {A : Type 0} → Bool → A → Option A
 provided true a = some a

@@ -3,8 +3,8 @@ use mathlib.Core.Bool.{cond}
 use mathlib.Core.List.{List}
 use Prim.Native.Nat.{ℕ}
 use Rattle.tokens.specs.declared.word.Word.{Word}
-use Rattle.tokens.specs.declared.word.Word.the-variants.{Shares, Map, Input, Origin, Set, Xor, Mul, App, Rand}
-use Rattle.tokens.specs.declared.word.Word.the-variants.{Result, Masked, Output, Unknown}
+use Rattle.tokens.specs.declared.word.Word.the-variants.{Shares, Map, Input, Origin, Set, Xor, Mul, App, Let}
+use Rattle.tokens.specs.declared.word.Word.the-variants.{Rand, Result, Masked, Output, Unknown}
 use Rattle.tokens.specs.Ascii.{ascii, sameBytes}
 
 -- the word of a statement that the bytes spell
@@ -14,8 +14,9 @@ statementWord w =
     (cond (sameBytes w (ascii "xor")) Xor
     (cond (sameBytes w (ascii "mul")) Mul
     (cond (sameBytes w (ascii "app")) App
+    (cond (sameBytes w (ascii "let")) Let
     (cond (sameBytes w (ascii "rand")) Rand
-    Unknown))))
+    Unknown)))))
 
 -- the word that the bytes spell
 unfoldable pub wordOf : List ℕ → Word

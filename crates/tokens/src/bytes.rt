@@ -2,8 +2,9 @@
 ghost use mathlib.Core.Path.{_≡_};
 ghost use Prim.Native.Nat.{_+_, _≤_};
 ghost use lib.ListN.{length, drop};
-ghost use Rattle.tokens.specs.Ascii.{isLetter, isDigit, isNameByte, allowed, all, sameBytes};
-ghost use Rattle.tokens.specs.Split.{before};
+ghost use Rattle.tokens.specs.Ascii.{isLetter, isDigit, isNameByte, isMark, allowed};
+ghost use Rattle.tokens.specs.Ascii.{all, sameBytes};
+ghost use Rattle.tokens.specs.Split.{before, until};
 
 // The byte between two fields.
 pub const TAB: u8 = 9;
@@ -44,6 +45,19 @@ pub fn is_name_byte(b: u8) -> bool
     b == b'_'
 }
 
+// ( ) and comma.
+pub fn is_mark(b: u8) -> bool
+    ensures { λ r. ⌜ r ≡ isMark b ⌝ }
+{
+    if b == b'(' {
+        return true;
+    }
+    if b == b')' {
+        return true;
+    }
+    b == b','
+}
+
 // A byte that refusal 3 lets stand in a line.
 pub fn is_allowed(b: u8) -> bool
     ensures { λ r. ⌜ r ≡ allowed b ⌝ }
@@ -57,7 +71,10 @@ pub fn is_allowed(b: u8) -> bool
     if b == b'.' {
         return true;
     }
-    b == TAB
+    if b == TAB {
+        return true;
+    }
+    is_mark(b)
 }
 
 // Every byte of a line is allowed.
@@ -85,6 +102,22 @@ pub fn find(s: &[u8], at: usize, sep: u8) -> usize
     while i < s.len() {
         let b = s[i];
         if b == sep {
+            return i;
+        }
+        i += 1;
+    }
+    i
+}
+
+// Where the first mark from place `at` on stands, or the end where there is none.
+pub fn find_mark(s: &[u8], at: usize) -> usize
+    requires { ⌜ at ≤ length (now s) ⌝ }
+    ensures { λ r. ⌜ r ≡ at + until isMark (drop at (now (s .entry))) ⌝ }
+{
+    let mut i = at;
+    while i < s.len() {
+        let b = s[i];
+        if is_mark(b) {
             return i;
         }
         i += 1;

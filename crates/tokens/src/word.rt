@@ -13,6 +13,7 @@ pub enum Word {
     Xor,
     Mul,
     App,
+    Let,
     Rand,
     Result,
     Masked,
@@ -35,6 +36,9 @@ pub fn statement_word(f: &[u8]) -> Word
     }
     if same(f, b"app") {
         return Word::App;
+    }
+    if same(f, b"let") {
+        return Word::Let;
     }
     if same(f, b"rand") {
         return Word::Rand;

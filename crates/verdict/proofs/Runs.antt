@@ -2,8 +2,8 @@
 -- random bytes that its list holds; and what that shows of judge's verdict.
 -- Assumes nothing.
 use mathlib.Core.Path.{_≡_, refl, sym, ap, _∙_, subst}
-use mathlib.Core.Logic.{_≢_}
-use Prim.Native.Nat.{ℕ, _<_}
+use mathlib.Core.Logic.{_≢_, _⊎_, inl, inr}
+use Prim.Native.Nat.{ℕ, _≤_, _<_}
 use native.Mathlib.Omega.{arith}
 use native.Mathlib.Decide.{ℕ-discrete}
 use mathlib.Core.List.{List, map}
@@ -72,11 +72,15 @@ module _ {text xs : List ℕ} {a : RunReport} (R : Ran text xs a) where
   unfolding runRefused
   eleven-only e = go (readText text) refl (read-numbered text)
     where
+      apart : {n : ℕ} → (n ≤ 10) ⊎ (n ≡ 13) → n ≡ 11 → ⊥
+      apart (inl l) q = omega arith
+      apart (inr l) q = omega arith
+
       go : (g : Reading) → readText text ≡ g → Numbered g
           → (r : Routine) × (readText text ≡ accepted r) × (length xs ≢ r .variables)
       go (refused n l) f h =
           let k : a .refusal ≡ n = ap (λ (b : RunReport). b .refusal) (ran-refused n l f) in
-          absurd (omega (arith, h .1))
+          absurd (apart (h .1) (sym k ∙ e))
       go (accepted r) f h = (
         r,
         f,

@@ -1,10 +1,9 @@
 -- The line that the program prints ("What judge answers", last paragraph).
 -- Assumes nothing.
-use Prim.Native.Nat.{ℕ, zero, suc, _+_, _/_, _%_}
-use mathlib.Core.Bool.{cond}
+use Prim.Native.Nat.{ℕ, _/_, _%_}
 use mathlib.Core.List.{List, [], _∷_, _++_}
-use lib.Dec.{ltb}
 use Rattle.tokens.specs.Ascii.{ascii, tab, lineFeed}
+unfoldable pub use Rattle.tokens.specs.Written.{digits, decimal, hexOf as hexDigit}
 use Rattle.verdict.specs.declared.report.Verdict.{Verdict}
 use Rattle.verdict.specs.declared.report.Verdict.the-variants.{Equal, Differs, Unknown, Refused}
 use Rattle.verdict.specs.Judge.{Outcome, refused, equal, differs, unknown, report}
@@ -15,21 +14,6 @@ word Equal = ascii "equal"
 word Differs = ascii "differs"
 word Unknown = ascii "unknown"
 word Refused = ascii "refused"
-
--- at most k decimal digits of n, in front of what follows
-unfoldable pub digits : ℕ → ℕ → List ℕ → List ℕ
-digits zero n rest = rest
-digits (suc k) n rest =
-    let more = digits k (n / 10) ((48 + n % 10) ∷ rest) in
-    cond (ltb n 10) ((48 + n) ∷ rest) more
-
--- a number below 10^20, in decimal
-unfoldable pub decimal : ℕ → List ℕ
-decimal n = digits 20 n []
-
--- a lower-case hex digit
-unfoldable pub hexDigit : ℕ → ℕ
-hexDigit d = cond (ltb d 10) (48 + d) (87 + d)
 
 -- each byte as two hex digits behind a tab
 unfoldable pub hexes : List ℕ → List ℕ

@@ -1,11 +1,13 @@
 //! Writes what the program `vectors` reads, and the lines that it must print. Each line comes from
-//! the independent judge; where a text has a stored line, both must agree, apart from idle: the
-//! stored lines count the inputs that are not read.
+//! the independent judge; where a text has a stored line, both must agree, apart from idle and the
+//! bytes of formulas: the stored lines count the inputs that are not read, and refuse ( ) and
+//! comma by 3.
 
 use bench_tests::examples::examples;
+use bench_tests::grammar::is_allowed;
 use bench_tests::judge::judge;
 use bench_tests::printed::{lines, sbox_text, tables};
-use bench_tests::texts::{faults, limits, standing};
+use bench_tests::texts::{faults, lets, limits, standing};
 use std::fs;
 use std::io;
 use std::path::{Path, PathBuf};
@@ -59,23 +61,17 @@ fn folders_of(words: Vec<String>) -> Option<Folders> {
     (words.len() == 4).then_some(Folders { corpus, out })
 }
 
-/// Writes both files; answers how many stored lines disagree with the judge in more than idle.
+/// Writes both files; answers how many stored lines disagree with the judge in more than idle and
+/// the bytes of formulas.
 fn write_all(folders: &Folders) -> io::Result<usize> {
     let mut cases = written_cases();
     for folder in ["gadgets", "damaged"] {
         cases.extend(stored_cases(&folders.corpus, folder)?);
     }
     let (mut texts, mut printed) = (vec![], tables());
-    let (mut wrong, mut idle) = (0, 0);
+    let mut counts = Counts::default();
     for case in &cases {
-        let line = judge(&case.text).line();
-        let stored = case.stored.as_ref().unwrap_or(&line);
-        if without_idle(stored) != without_idle(&line) {
-            eprint!("{}: judged {line}", case.name);
-            wrong += 1;
-        } else if *stored != line {
-            idle += 1;
-        }
+        counts.add(case);
         let header = format!("{}\t{}\n", case.name, case.text.len());
         texts.extend_from_slice(header.as_bytes());
         texts.extend_from_slice(&case.text);
@@ -85,13 +81,56 @@ fn write_all(folders: &Folders) -> io::Result<usize> {
     fs::create_dir_all(&folders.out)?;
     fs::write(folders.out.join("stdin"), &texts)?;
     fs::write(folders.out.join("stdout"), printed)?;
-    let stored = cases.iter().filter(|case| case.stored.is_some()).count();
+    print!("{} cases, {} bytes; ", cases.len(), texts.len());
     println!(
-        "{} cases, {} bytes; {stored} stored lines, {wrong} of them disagree, {idle} in idle alone",
-        cases.len(),
-        texts.len(),
+        "{} stored lines, {} of them disagree, {} in idle alone, {} in the bytes of formulas alone",
+        counts.stored, counts.wrong, counts.idle, counts.marks
     );
-    Ok(wrong)
+    Ok(counts.wrong)
+}
+
+/// How many lines are stored, and how many of them are not what the judge answers: in more than
+/// what was requested later, in idle alone, and in the bytes of formulas alone.
+#[derive(Default)]
+struct Counts {
+    stored: usize,
+    wrong: usize,
+    idle: usize,
+    marks: usize,
+}
+
+impl Counts {
+    /// Counts one case.
+    fn add(&mut self, case: &Case) {
+        let Some(stored) = &case.stored else {
+            return;
+        };
+        self.stored += 1;
+        let line = judge(&case.text).line();
+        if *stored == line {
+            return;
+        }
+        if without_idle(stored) == without_idle(&line) {
+            self.idle += 1;
+        } else if refuses_allowed(&case.text, stored) {
+            self.marks += 1;
+        } else {
+            eprint!("{}: judged {line}", case.name);
+            self.wrong += 1;
+        }
+    }
+}
+
+/// Whether a stored line refuses by 3 a line of the text all of whose bytes are allowed.
+fn refuses_allowed(text: &[u8], stored: &str) -> bool {
+    let fields: Vec<&str> = stored.split('\t').collect();
+    let ["refused", "3", number, ..] = fields[..] else {
+        return false;
+    };
+    let mut lines = text.split(|byte| *byte == b'\n').zip(1..);
+    lines.any(|(line, at): (_, usize)| {
+        at.to_string() == number && line.iter().all(|byte| is_allowed(*byte))
+    })
 }
 
 /// The fields of a line, apart from idle.
@@ -112,12 +151,16 @@ fn written_cases() -> Vec<Case> {
     let pairs = faults::pairs()
         .into_iter()
         .map(|(name, text, _)| (name, text));
+    let formulas = lets::cases()
+        .into_iter()
+        .map(|(name, text, _)| (name, text));
     sbox.into_iter()
         .chain(examples)
         .chain(limits::both_sides())
         .chain(standing::both_sides())
         .chain(faults::short_texts())
         .chain(pairs)
+        .chain(formulas)
         .chain(faults::every_byte())
         .map(|(name, text)| Case {
             name,

@@ -28,7 +28,7 @@ impl Line {
 
 /// Whether a byte may stand in a line.
 fn is_allowed(byte: &u8) -> bool {
-    byte.is_ascii_lowercase() || byte.is_ascii_digit() || b"#._\t".contains(byte)
+    byte.is_ascii_lowercase() || byte.is_ascii_digit() || b"#._\t(),".contains(byte)
 }
 
 /// The fields of a line that are not yet handed out.
@@ -70,8 +70,7 @@ impl<'a> Fields<'a> {
 
     /// The next field as a name.
     pub fn name(&mut self, dotted: bool) -> Result<NameRef, u8> {
-        let at = self.at;
-        let field = self.next().ok_or(5)?;
+        let (at, field) = self.placed()?;
         name_of(self.text, at, field, dotted).ok_or(5)
     }
 
@@ -80,13 +79,10 @@ impl<'a> Fields<'a> {
         hex_byte(self.next().ok_or(5)?).ok_or(5)
     }
 
-    /// The next field as a constant, where it begins with #.
-    pub fn constant(&mut self) -> Option<Result<u8, u8>> {
-        if self.done || self.text[self.at..self.end].first() != Some(&b'#') {
-            return None;
-        }
-        let field = self.next()?;
-        Some(hex_byte(&field[1..]).ok_or(5))
+    /// The place of the next field, and the field.
+    pub fn placed(&mut self) -> Result<(usize, &'a [u8]), u8> {
+        let at = self.at;
+        Ok((at, self.next().ok_or(5)?))
     }
 
     /// Refuses a field too many, then a record that may not stand here.
@@ -100,7 +96,7 @@ impl<'a> Fields<'a> {
 }
 
 /// Two lower-case hex digits.
-fn hex_byte(field: &[u8]) -> Option<u8> {
+pub fn hex_byte(field: &[u8]) -> Option<u8> {
     let digit = |byte| match byte {
         b'0'..=b'9' => Some(byte - b'0'),
         b'a'..=b'f' => Some(byte - b'a' + 10),

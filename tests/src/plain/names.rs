@@ -31,10 +31,15 @@ impl Names {
             .position(|item| item.part == name.part && text[item.at..item.at + item.len] == *bytes)
     }
 
-    /// Adds a name.
+    /// Adds a name; that of length 0 is found by none.
     pub fn push(&mut self, name: NameRef) {
         self.items[self.count] = name;
         self.count += 1;
+    }
+
+    /// Names the value added last.
+    pub fn name_last(&mut self, name: NameRef) {
+        self.items[self.count - 1] = name;
     }
 }
 

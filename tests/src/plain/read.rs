@@ -3,16 +3,16 @@
 use super::field::AffineMap;
 use super::line::{Fields, Line};
 use super::names::{NameRef, Names};
-use super::routine::{Op, Operand, Routine, Statement};
+use super::routine::Routine;
 
 /// What the lines above have given.
-struct Known<'a> {
-    text: &'a [u8],
-    routine: Routine,
-    stage: u8,
-    maps: Names,
-    origin: Names,
-    masked: Names,
+pub struct Known<'a> {
+    pub text: &'a [u8],
+    pub routine: Routine,
+    pub stage: u8,
+    pub maps: Names,
+    pub origin: Names,
+    pub masked: Names,
 }
 
 /// The routine that a text holds, or a refusal's number and line.
@@ -49,7 +49,7 @@ fn order_of(word: &[u8]) -> Option<(u8, u8)> {
         b"map" => (2, 1),
         b"input" => (2 | 4, 2),
         b"origin" => (2 | 4, 3),
-        b"set" | b"xor" | b"mul" | b"app" => (8 | 32, 0),
+        b"set" | b"xor" | b"mul" | b"app" | b"let" => (8 | 32, 0),
         b"rand" => (32, 0),
         b"result" => (8, 4),
         b"masked" => (16, 5),
@@ -78,6 +78,7 @@ impl Known<'_> {
             b"origin" | b"masked" => fields.end(stands)?,
             b"result" => self.take_result(fields, stands)?,
             b"output" => self.take_output(fields, stands)?,
+            b"let" => self.take_let(fields, stands, n)?,
             _ => self.take_statement(word, fields, stands, n)?,
         }
         if after != 0 {
@@ -145,79 +146,6 @@ impl Known<'_> {
         fields.end(stands)?;
         self.routine.result = self.origin.place(self.text, name).ok_or(8)?;
         Ok(())
-    }
-
-    /// Finds an operand among the names of the block.
-    fn operand(&self, fields: &mut Fields, unknown: &mut bool) -> Result<Operand, u8> {
-        let set = if self.stage == 5 {
-            &self.masked
-        } else {
-            &self.origin
-        };
-        if let Some(byte) = fields.constant() {
-            return byte.map(Operand::Byte);
-        }
-        let name = fields.name(true)?;
-        let place = set.place(self.text, name);
-        *unknown |= place.is_none();
-        Ok(Operand::Place(place.unwrap_or(0)))
-    }
-
-    /// One statement more in its block.
-    fn take_statement(
-        &mut self,
-        word: &[u8],
-        mut fields: Fields,
-        stands: bool,
-        line: usize,
-    ) -> Result<(), u8> {
-        let name = fields.name(true)?;
-        let mut unknown = false;
-        let op = self.op(word, &mut fields, &mut unknown)?;
-        fields.end(stands)?;
-        let drawn = (word == b"rand") as usize;
-        let set = if self.stage == 5 {
-            &mut self.masked
-        } else {
-            &mut self.origin
-        };
-        if set.place(self.text, name).is_some() {
-            return Err(7);
-        }
-        if unknown {
-            return Err(8);
-        }
-        let routine = &mut self.routine;
-        if routine.count == 256 || routine.variables + drawn > 16 {
-            return Err(9);
-        }
-        routine.variables += drawn;
-        routine.statements[routine.count] = Statement { op, line };
-        routine.count += 1;
-        routine.origin += (self.stage == 3) as usize;
-        set.push(name);
-        Ok(())
-    }
-
-    /// What a statement computes.
-    fn op(&self, word: &[u8], fields: &mut Fields, unknown: &mut bool) -> Result<Op, u8> {
-        Ok(match word {
-            b"set" => Op::Set(self.operand(fields, unknown)?),
-            b"xor" => Op::Xor(
-                self.operand(fields, unknown)?,
-                self.operand(fields, unknown)?,
-            ),
-            b"mul" => Op::Mul(
-                self.operand(fields, unknown)?,
-                self.operand(fields, unknown)?,
-            ),
-            b"app" => {
-                let map = self.maps.place(self.text, fields.name(false)?);
-                *unknown |= map.is_none();
-                Op::App(map.unwrap_or(0), self.operand(fields, unknown)?)
-            }
-            _ => Op::Rand(self.routine.variables),
-        })
     }
 
     /// The outputs.

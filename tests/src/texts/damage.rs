@@ -3,9 +3,10 @@
 use crate::maps::FIPS;
 use crate::random::Random;
 use crate::texts::draft::{map_line, Draft};
+use crate::texts::formulas;
 
 /// Fields that are not of their form, or of another one's.
-const FIELDS: [&str; 22] = [
+const FIELDS: [&str; 25] = [
     "",
     "x",
     "x.0",
@@ -28,6 +29,9 @@ const FIELDS: [&str; 22] = [
     "abcdefghijkl",
     "abcdefghijklm",
     "abcdefghijkl.3",
+    "xor",
+    "xor(x,x)",
+    "mul(#02,xor(x,x.0)",
 ];
 
 /// The words of records, and words that are none.
@@ -59,6 +63,32 @@ pub fn damaged(random: &mut Random, mut draft: Draft) -> Vec<u8> {
         text.pop();
     }
     text
+}
+
+/// A text with a formula nested too deep or broken, and often a second fault on its line.
+pub fn damaged_let(random: &mut Random, mut draft: Draft) -> Vec<u8> {
+    let is_let = |at: &usize| draft.lines[*at][0] == "let";
+    let lets: Vec<usize> = (0..draft.count()).filter(is_let).collect();
+    if lets.is_empty() {
+        return draft.text();
+    }
+    let at = *random.pick(&lets);
+    let line = &mut draft.lines[at];
+    line[2] = match random.one_in(3) {
+        true => formulas::broken(random, &line[2]),
+        false => {
+            let part = *random.pick(&["#00", "#00", "x", "not_given"]);
+            let depth = random.between(4, 9);
+            formulas::nested("xor(", &line[2], &format!(",{part})"), depth)
+        }
+    };
+    match random.below(4) {
+        0 => damage_lines(random, &mut draft, at),
+        1 => damage_fields(random, &mut draft, at),
+        2 => draft.lines[at][1] = random.pick(&draft.lines[at / 2]).clone(),
+        _ => {}
+    }
+    draft.text()
 }
 
 /// A line dropped, doubled, swapped, moved, added behind the last, or a word alone added.
@@ -99,6 +129,10 @@ fn damage_fields(random: &mut Random, draft: &mut Draft, at: usize) {
     };
     let line = &mut draft.lines[at];
     let field = random.below(line.len());
+    if line[0] == "let" && line.len() == 3 && random.one_in(2) {
+        line[2] = formulas::broken(random, &line[2]);
+        return;
+    }
     match random.below(8) {
         0 => line[field] = random.pick(&FIELDS).to_string(),
         1 => line[0] = random.pick(&WORDS).to_string(),
@@ -123,11 +157,11 @@ fn damage_bytes(random: &mut Random, text: &mut Vec<u8>) {
     let at = random.below(text.len());
     match random.below(6) {
         0 => text[at] = random.byte(),
-        1 => text[at] = *random.pick(b"\t\n\r #._az09AZ"),
+        1 => text[at] = *random.pick(b"\t\n\r #._(),az09AZ"),
         2 => {
             text.remove(at);
         }
-        3 => text.insert(at, *random.pick(b"\t\n\r #._az09AZ")),
+        3 => text.insert(at, *random.pick(b"\t\n\r #._(),az09AZ")),
         4 => text.insert(at, text[at]),
         _ => text.truncate(at),
     }

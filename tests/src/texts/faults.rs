@@ -2,6 +2,7 @@
 
 use crate::maps::FIPS;
 use crate::texts::draft::{map_line, Draft};
+use crate::texts::let_faults;
 
 /// A text up to its origin block.
 const ORIGIN: &str = "shares 2\ninput x\norigin\nset o x";
@@ -58,7 +59,8 @@ const UNENDED: [Pair; 10] = [
     (4, 4, MASKED, "output y x.0"),
 ];
 
-/// Every pair, with a name for each and the lower number.
+/// Every pair, with a name for each and the number that counts: the lower one, but 13 comes just
+/// after 5.
 pub fn pairs() -> Vec<(String, Vec<u8>, u64)> {
     let mut all = vec![];
     let mut add = |low: u64, high: u64, text: Vec<u8>| {
@@ -86,6 +88,9 @@ pub fn pairs() -> Vec<(String, Vec<u8>, u64)> {
     }
     for (low, high, line) in AT_INPUTS {
         add(low, high, with_line(Draft::of(FOUR_INPUTS), line).text());
+    }
+    for (first, second, text) in let_faults::pairs() {
+        add(first, second, text);
     }
     all
 }
@@ -205,9 +210,9 @@ mod tests {
     use crate::judge::judge;
 
     #[test]
-    fn the_lower_number_counts() {
-        for (name, text, low) in pairs() {
-            assert_eq!(judge(&text).report.refusal, low, "{name}");
+    fn the_number_that_comes_first_counts() {
+        for (name, text, first) in pairs() {
+            assert_eq!(judge(&text).report.refusal, first, "{name}");
         }
     }
 }

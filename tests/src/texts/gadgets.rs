@@ -2,6 +2,7 @@
 
 use crate::random::Random;
 use crate::texts::draft::{map_line, Draft};
+use crate::texts::formulas::drawn;
 use crate::texts::pairing::{draw_map, Pairing};
 
 /// A gadget that masks its original; the size of its values is kept below about `most`.
@@ -117,6 +118,7 @@ fn draw_block(
     maps: usize,
     steps: usize,
 ) {
+    let maps: Vec<String> = (0..maps).map(|i| format!("f{i}")).collect();
     for i in 0..steps {
         let mut operand = || match given.is_empty() || random.one_in(6) {
             true => format!("#{:02x}", random.byte()),
@@ -124,10 +126,14 @@ fn draw_block(
         };
         let (a, b) = (operand(), operand());
         let name = format!("t{i}");
-        draft.add(&match random.below(6) {
+        draft.add(&match random.below(8) {
             0 => format!("set {name} {a}"),
             1 | 2 => format!("xor {name} {a} {b}"),
-            3 if maps > 0 => format!("app {name} f{} {a}", random.below(maps)),
+            3 if !maps.is_empty() => format!("app {name} {} {a}", random.pick(&maps)),
+            4 => {
+                let count = *random.pick(&[0, 1, 2, 2, 3, 3, 4, 5, 6, 8, 10]);
+                format!("let {name} {}", drawn(random, count, given, &maps))
+            }
             _ => format!("mul {name} {a} {b}"),
         });
         given.push(name);

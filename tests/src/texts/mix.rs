@@ -3,12 +3,13 @@
 use crate::examples::examples;
 use crate::limits::{MOST_STATEMENTS, MOST_TEXT};
 use crate::random::Random;
-use crate::texts::damage::{crowded, damaged};
+use crate::texts::damage::{crowded, damaged, damaged_let};
 use crate::texts::draft::Draft;
+use crate::texts::folding::folded;
 use crate::texts::gadgets::{broken, gadget, unplanned};
 use crate::texts::roots::{roots, single_byte};
 use crate::texts::standing::{far_above, near_limit};
-use crate::texts::{faults, limits};
+use crate::texts::{faults, lets, limits};
 
 /// Values of ordinary gadgets stay below about so many terms.
 const ORDINARY: usize = 40;
@@ -29,6 +30,7 @@ impl Mix {
         stored.extend(faults::pairs().into_iter().map(|(_, text, _)| text));
         stored.extend(faults::short_texts().into_iter().map(|(_, text)| text));
         let small = limits::both_sides().into_iter().map(|(_, text)| text);
+        let small = small.chain(lets::cases().into_iter().map(|(_, text, _)| text));
         stored.extend(small.filter(|text| text.len() < 1_000));
         Mix {
             random: Random::new(seed),
@@ -39,35 +41,42 @@ impl Mix {
     /// The next text.
     pub fn draw(&mut self) -> Vec<u8> {
         let random = &mut self.random;
-        match random.below(1_000) {
-            0..=149 => gadget(random, ORDINARY).text(),
-            150..=349 => broken(random, ORDINARY).text(),
-            350..=489 => unplanned(random).text(),
-            490..=519 => roots(random).text(),
-            520..=594 => far_above(random).text(),
-            595..=604 => near_limit(random).text(),
-            605..=606 => single_byte(high_byte(random)).text(),
-            607..=616 => gadget(random, WIDE).text(),
-            617..=621 => self.long(),
-            622..=701 => crowded(random).text(),
-            702..=737 => damaged_stored(random, &self.stored),
+        let draft = match random.below(1_000) {
+            0..=149 => gadget(random, ORDINARY),
+            150..=349 => broken(random, ORDINARY),
+            350..=489 => unplanned(random),
+            490..=519 => roots(random),
+            520..=594 => far_above(random),
+            595..=604 => near_limit(random),
+            605..=606 => single_byte(high_byte(random)),
+            607..=616 => gadget(random, WIDE),
+            617..=623 => return self.long(),
+            624..=701 => crowded(random),
+            702..=737 => return damaged_stored(random, &self.stored),
             738..=767 => {
                 let draft = crowded(random);
-                damaged(random, draft)
+                return damaged(random, draft);
             }
-            768..=787 => random.pick(&self.stored).clone(),
+            768..=787 => return random.pick(&self.stored).clone(),
+            788..=817 => {
+                let draft = gadget(random, ORDINARY);
+                let draft = folded(random, &draft);
+                return damaged_let(random, draft);
+            }
             _ => {
                 let draft = gadget(random, ORDINARY);
-                damaged(random, draft)
+                let draft = often_folded(random, draft);
+                return damaged(random, draft);
             }
-        }
+        };
+        often_folded(random, draft).text()
     }
 
     /// A text near the limit of statements or of bytes.
     fn long(&mut self) -> Vec<u8> {
         let random = &mut self.random;
         let near = random.below(3) + MOST_STATEMENTS - 1;
-        match random.below(4) {
+        match random.below(6) {
             0 => {
                 let origin = random.below(near);
                 let rand = random.one_in(2);
@@ -78,6 +87,13 @@ impl Mix {
                 damaged(random, draft)
             }
             2 => limits::length(MOST_TEXT - 1 + random.below(3)),
+            3 => lets::near_count(random).text(),
+            4 => {
+                let (_, before, behind) = *random.pick(&lets::WAYS);
+                let depth = random.between(9, lets::MOST_LEVELS);
+                let end = *random.pick(&["", ")", ",x", "x"]);
+                lets::deep(before, behind, depth, end)
+            }
             _ => {
                 let mut text = gadget(random, ORDINARY).text();
                 let more = random.below(4_000);
@@ -85,6 +101,14 @@ impl Mix {
                 text
             }
         }
+    }
+}
+
+/// The draft as it is, or with statements in formulas.
+fn often_folded(random: &mut Random, draft: Draft) -> Draft {
+    match random.one_in(3) {
+        true => folded(random, &draft),
+        false => draft,
     }
 }
 

@@ -3,7 +3,12 @@
 pub mod damage;
 pub mod draft;
 pub mod faults;
+pub mod folding;
+pub mod formulas;
 pub mod gadgets;
+mod let_faults;
+mod let_forms;
+pub mod lets;
 pub mod limits;
 pub mod mix;
 pub mod names;

@@ -3,6 +3,9 @@
 use crate::maps::FIPS;
 use crate::texts::draft::{map_line, Draft};
 
+/// How a text is made of four names.
+type With = fn(&str, &str, &str, &str) -> Draft;
+
 /// A text with these names for its map, its input, its origin value and its masked value.
 fn with_names(map: &str, input: &str, origin: &str, masked: &str) -> Draft {
     let mut draft = Draft::of("shares 1");
@@ -10,6 +13,18 @@ fn with_names(map: &str, input: &str, origin: &str, masked: &str) -> Draft {
     let rest = format!(
         "input {input}\norigin\napp {origin} {map} {input}\nresult {origin}\nmasked\n\
         app {masked} {map} {input}.0\noutput {masked}"
+    );
+    draft.add_lines(&rest);
+    draft
+}
+
+/// The same by lets, the origin value and the masked value also read in a formula.
+fn with_names_in_lets(map: &str, input: &str, origin: &str, masked: &str) -> Draft {
+    let mut draft = Draft::of("shares 1");
+    draft.add(&map_line(map, &FIPS));
+    let rest = format!(
+        "input {input}\norigin\nlet {origin} app({map},{input})\nlet p xor({origin},#01)\n\
+        result p\nmasked\nlet {masked} app({map},{input}.0)\nlet p xor(#01,{masked})\noutput p"
     );
     draft.add_lines(&rest);
     draft
@@ -34,15 +49,18 @@ pub fn cases() -> Vec<(String, Vec<u8>)> {
         ("hash", "#05"),
     ];
     let mut all = vec![];
-    for (label, name) in stems {
-        let drafts = [
-            ("map", with_names(name, "x", "o", "y")),
-            ("input", with_names("f", name, "o", "y")),
-            ("origin", with_names("f", "x", name, "y")),
-            ("masked", with_names("f", "x", "o", name)),
-        ];
-        for (place, draft) in drafts {
-            all.push((format!("name_{place}_{label}"), draft.text()));
+    let ways: [(&str, With); 2] = [("name", with_names), ("name_let", with_names_in_lets)];
+    for (way, with) in ways {
+        for (label, name) in stems {
+            let drafts = [
+                ("map", with(name, "x", "o", "y")),
+                ("input", with("f", name, "o", "y")),
+                ("origin", with("f", "x", name, "y")),
+                ("masked", with("f", "x", "o", name)),
+            ];
+            for (place, draft) in drafts {
+                all.push((format!("{way}_{place}_{label}"), draft.text()));
+            }
         }
     }
     all

@@ -4,7 +4,7 @@ use crate::maps::{Map, FIPS, SQUARING};
 use crate::random::Random;
 
 /// Stems of names; the sets use the same ones, since they are separate.
-const STEMS: [&str; 8] = ["t", "v", "x", "f", "set", "a_b", "r9_", "long_name"];
+const STEMS: [&str; 9] = ["t", "v", "x", "f", "q", "set", "a_b", "r9_", "long_name"];
 
 /// An operand of the origin block, the operands that share it, and about how many terms it has.
 #[derive(Clone)]

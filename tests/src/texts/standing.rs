@@ -9,8 +9,9 @@ use crate::texts::draft::{map_line, Draft};
 type Place = (&'static str, fn(usize) -> usize);
 
 /// Here a and b have k terms and c has k·k; map f has eight nonzero coefficients and a constant,
-/// map q one coefficient and none.
-const PLACES: [Place; 14] = [
+/// map q one coefficient and none. With a let it is the operation at which standing, the let's
+/// earlier values with it, plus raw is greatest; their sizes count as raw here.
+const PLACES: [Place; 20] = [
     ("set z c", |k| k * k),
     ("xor z c c", |k| 2 * k * k),
     ("xor z c a", |k| k * k + k),
@@ -25,6 +26,14 @@ const PLACES: [Place; 14] = [
     ("masked app z f a.0", |_| 9),
     ("masked app z q a.0", |_| 1),
     ("masked rand z", |_| 1),
+    ("let z c", |k| k * k),
+    ("let z xor(c,mul(a,b))", |k| 3 * k * k),
+    ("let z mul(mul(a,b),xor(a,b))", |k| {
+        k * k + 2 * k + 2 * k * k * k
+    }),
+    ("let z mul(app(f,c),#00)", |k| 8 * k * k + 1),
+    ("masked let z xor(a.0,mul(a.0,b.0))", |_| 3),
+    ("masked let z mul(mul(xor(a.0,b.0),#00),a.0)", |_| 2),
 ];
 
 /// A text in which one place has standing plus raw of exactly `total`.

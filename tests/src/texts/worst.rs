@@ -2,6 +2,7 @@
 
 use crate::maps::{Map, FIPS, SQUARING};
 use crate::texts::draft::{map_line, Draft};
+use crate::texts::lets;
 
 /// The variables of a text of 4 inputs at 4 shares, in their order.
 const VARIABLES: [&str; 16] = [
@@ -211,6 +212,7 @@ pub fn all() -> Vec<(&'static str, Draft)> {
         ("dense, one variable", dense(1)),
         ("dense, times five terms", dense(5)),
         ("256 statements", most_statements()),
+        ("255 operations in one formula", lets::longest()),
         ("images of 64 terms", wide_image()),
     ]
 }

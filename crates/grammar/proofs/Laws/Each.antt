@@ -8,8 +8,9 @@ use lib.ListN.{length, drop, getD, drop-of-length-le}
 use native.Mathlib.Omega.{arith}
 use borrow.Author.Tests.{eq-eqb, ne-eqb, le-leb, lt-leb}
 use Rattle.tokens.specs.Token.{_>>=_, readHex, readName}
-use Rattle.grammar.specs.Record.{each}
-use Rattle.grammar.specs.Recorded.{columnsOf, namesOf, namesRead, NoOutputs, OutputsAre}
+use Rattle.grammar.specs.Formula.{readFormula}
+use Rattle.grammar.specs.Record.{each, field}
+use Rattle.grammar.specs.Recorded.{columnsOf, formulaOf, namesOf, namesRead, NoOutputs, OutputsAre}
 use Rattle.grammar.specs.Line.{piecesIn}
 use Rattle.grammar.specs.declared.line.Line.{Line}
 use Rattle.grammar.specs.declared.lists.Outputs.{Outputs}
@@ -60,7 +61,7 @@ pub fields-bind : {A B : Type 0} (b : Bool) (o : Option A) (f : A → Option B)
 fields-bind true o f = refl
 fields-bind false o f = refl
 
--- ---- the columns of a map, and the names of an output, by the number of pieces
+-- ---- the columns of a map, a formula, and the names of an output, by the number of pieces
 module _ (ps : List (List ℕ)) where
   -- a map line with all its pieces
   pub columns-eleven : length ps ≡ 11 → columnsOf ps ≡ onto [] (each readHex (drop 3 ps))
@@ -71,6 +72,16 @@ module _ (ps : List (List ℕ)) where
   pub columns-other : (length ps ≡ 11 → ⊥) → none ≡ columnsOf ps
   unfolding columnsOf
   columns-other h = simp (ne-eqb _ _ h)
+
+  -- a line with a formula
+  pub formula-three : length ps ≡ 3 → readFormula (field 2 ps) ≡ formulaOf ps
+  unfolding formulaOf
+  formula-three h = simp (eq-eqb _ _ h)
+
+  -- a line with another number of pieces
+  pub formula-other : (length ps ≡ 3 → ⊥) → none ≡ formulaOf ps
+  unfolding formulaOf
+  formula-other h = simp (ne-eqb _ _ h)
 
   -- an output line with 1 to 8 names
   pub names-some : 2 ≤ length ps → length ps ≤ 9 → namesOf ps ≡ onto [] (each readName (drop 1 ps))

@@ -1,115 +1,26 @@
--- What a record has that a line makes: it is one of its word, its constants are bytes, and a map has eight columns.
--- Assumes nothing.
-use mathlib.Core.Path.{_≡_, refl, ap, _∙_}
-use Prim.Native.Nat.{ℕ, suc, _+_, _*_, _-_, _≤_}
-use native.Mathlib.Omega.{arith}
-use mathlib.Core.Bool.{Bool, true, false, _&&_, cond}
-use mathlib.Core.List.{List, [], _∷_}
+-- What a record has that a line makes: it is one of its word, its constants are bytes, also in a formula, and a map has
+-- eight columns. Assumes nothing.
+use mathlib.Core.Path.{_≡_, ap, _∙_}
+use Prim.Native.Nat.{ℕ, _+_, _-_, _≤_}
+use mathlib.Core.List.{List}
 use mathlib.Core.Option.{Option, none, some}
-use lib.Dec.{leb, ltb, eqb}
-use lib.ListN.{length, drop, getD, length-drop}
-use borrow.Author.Tests.{leb-true, ltb-true, eqb-true}
+use lib.Dec.{eqb}
+use lib.ListN.{length, drop, length-drop}
+use borrow.Author.Tests.{eqb-true}
 use Rattle.tokens.specs.declared.word.Word.{Word}
-use Rattle.tokens.specs.declared.word.Word.the-variants.{Shares, Map, Input, Origin, Set, Xor, Mul, App, Rand}
-use Rattle.tokens.specs.declared.word.Word.the-variants.{Result, Masked, Output, Unknown}
-use Rattle.tokens.specs.Ascii.{within, hash}
-use Rattle.tokens.specs.Token.{_>>=_, provided, Name, Term, name, byte, hexDigit, readName, readPlain, readHex}
-use Rattle.tokens.specs.Token.{readCount, readConstant, readTerm}
-use Rattle.grammar.specs.Record.{Form, set, xor, mul, app, rand, Record, shares, map, input, origin, assign}
-use Rattle.grammar.specs.Record.{result}
-use Rattle.grammar.specs.Record.{masked, output, each, field, fields, assigned, operands, recordFor}
+use Rattle.tokens.specs.declared.word.Word.the-variants.{Shares, Map, Input, Origin, Set, Xor, Mul, App, Let}
+use Rattle.tokens.specs.declared.word.Word.the-variants.{Rand, Result, Masked, Output, Unknown}
+use Rattle.tokens.specs.Ascii.{within}
+use Rattle.tokens.specs.Token.{_>>=_, Name, Term, readName, readPlain, readHex, readCount, readTerm}
 use Rattle.tokens.specs.Limits.{columnCount, mostShares}
 use Rattle.tokens.specs.Byte.{Each, IsByte}
-
--- ---- what an answer holds, if it holds anything
-
--- what an answer holds, if it holds anything
-abbrev pub Holds : {A : Type 0} → (A → Type 0) → Option A → Type 0
-Holds P none = Unit {0}
-Holds P (some a) = P a
-
-module _ {A B : Type 0} where
-  bind-holds : (P : A → Type 0) (Q : B → Type 0) (o : Option A) (f : A → Option B)
-      → Holds P o → ((a : A) → P a → Holds Q (f a)) → Holds Q (o >>= f)
-  bind-holds P Q none f h g = tt
-  bind-holds P Q (some a) f h g = g a h
-
-  -- whatever it holds
-  bind-any : (Q : B → Type 0) (o : Option A) (f : A → Option B) → ((a : A) → Holds Q (f a)) → Holds Q (o >>= f)
-  bind-any Q none f g = tt
-  bind-any Q (some a) f g = g a
-
-module _ {A : Type 0} (P : A → Type 0) where
-  provided-holds : (b : Bool) (a : A) → (b ≡ true → P a) → Holds P (provided b a)
-  provided-holds true a h = h refl
-  provided-holds false a h = tt
-
-  cond-holds : (b : Bool) (x y : Option A) → (b ≡ true → Holds P x) → Holds P y → Holds P (cond b x y)
-  cond-holds true x y h k = h refl
-  cond-holds false x y h k = k
-
-and-true : (a b : Bool) → a && b ≡ true → (a ≡ true) × (b ≡ true)
-and-true true b h = (refl, h)
-and-true false b h = let z : _≡_ {A = ℕ} 0 1 = cc in absurd (omega arith)
-
--- ---- fields
-
-hex-byte : (s : List ℕ) → Holds IsByte (readHex s)
-unfolding readHex
-hex-byte s =
-    let a = hexDigit (getD s 0 0) in
-    let b = hexDigit (getD s 1 0) in
-    provided-holds IsByte (eqb (length s) 2 && ltb a 16 && ltb b 16) (16 * a + b) (λ t.
-    let u = and-true (eqb (length s) 2 && ltb a 16) (ltb b 16) t in
-    let v = and-true (eqb (length s) 2) (ltb a 16) (u .0) in
-    omega (arith, ltb-true a 16 (v .1), ltb-true b 16 (u .1)))
-
--- a count is 1 to 8
-abbrev CountForm : ℕ → Type 0
-CountForm k = (1 ≤ k) × (k ≤ mostShares)
-
-count-formed : (s : List ℕ) → Holds CountForm (readCount s)
-unfolding readCount
-count-formed s =
-    let b = getD s 0 0 in
-    provided-holds CountForm (eqb (length s) 1 && (leb 49 b && leb b 56)) (b - 48) (λ t.
-    let u = and-true (eqb (length s) 1) (leb 49 b && leb b 56) t in
-    let v = and-true (leb 49 b) (leb b 56) (u .1) in
-    let low : 49 ≤ b = leb-true 49 b (v .0) in
-    let high : b ≤ 56 = leb-true b 56 (v .1) in
-    (omega arith, omega arith))
-
--- a constant is a byte
-abbrev pub FormedTerm : Term → Type 0
-FormedTerm (name n) = Unit {0}
-FormedTerm (byte b) = IsByte b
-
-term-formed : (s : List ℕ) → Holds FormedTerm (readTerm s)
-unfolding readTerm readConstant
-term-formed s =
-    cond-holds FormedTerm (eqb (length s) 0) none
-    (cond (eqb (getD s 0 0) hash) (readHex (drop 1 s) >>= λ v. some (byte v)) (readName s >>= λ n. some (name n)))
-    (λ t. tt)
-    (cond-holds FormedTerm (eqb (getD s 0 0) hash) (readHex (drop 1 s) >>= λ v. some (byte v))
-    (readName s >>= λ n. some (name n))
-    (λ t. bind-holds IsByte FormedTerm (readHex (drop 1 s)) (λ v. some (byte v)) (hex-byte (drop 1 s)) (λ v h. h))
-    (bind-any FormedTerm (readName s) (λ n. some (name n)) (λ n. tt)))
-
--- as many bytes as there are fields
-Columns : ℕ → List ℕ → Type 0
-Columns n l = (length l ≡ n) × Each IsByte l
-
-hexes-formed : (ps : List (List ℕ)) → Holds (Columns (length ps)) (each readHex ps)
-unfolding each Columns
-hexes-formed [] = (refl, tt)
-hexes-formed (p ∷ ps) =
-    bind-holds IsByte (Columns (suc (length ps))) (readHex p) (λ a. each readHex ps >>= λ rest. some (a ∷ rest))
-    (hex-byte p) (λ a h.
-    bind-holds (Columns (length ps)) (Columns (suc (length ps))) (each readHex ps) (λ rest. some (a ∷ rest))
-    (hexes-formed ps)
-    (λ rest k. (ap suc (k .0), (h, k .1))))
-
--- ---- records
+use Rattle.grammar.specs.Formula.{Formula, readFormula}
+use Rattle.grammar.specs.Record.{Form, set, xor, mul, app, rand, Record, shares, map, input, origin, assign}
+use Rattle.grammar.specs.Record.{letting, result, masked, output, each, field, fields, assigned, operands}
+use Rattle.grammar.specs.Record.{recordFor}
+use Rattle.grammar.proofs.Laws.Holding.{Holds, bind-holds, bind-any, cond-holds, hex-byte, CountForm}
+use Rattle.grammar.proofs.Laws.Holding.{FormedTerm, term-formed, Columns, hexes-formed, FormedFormula}
+use Rattle.grammar.proofs.Laws.Holding.{count-formed, formula-formed}
 
 -- a record of a word
 pub data Fits : Word → Record → Type 0 where
@@ -121,6 +32,7 @@ pub data Fits : Word → Record → Type 0 where
   fit-xor : {n : Name} {a b : Term} → FormedTerm a → FormedTerm b → Fits Xor (assign n (xor a b))
   fit-mul : {n : Name} {a b : Term} → FormedTerm a → FormedTerm b → Fits Mul (assign n (mul a b))
   fit-app : {n f : Name} {a : Term} → FormedTerm a → Fits App (assign n (app f a))
+  fit-let : {n : Name} {f : Formula} → FormedFormula f → Fits Let (letting n f)
   fit-rand : {n : Name} → Fits Rand (assign n rand)
   fit-result : {n : Name} → Fits Result (result n)
   fit-masked : Fits Masked masked
@@ -155,7 +67,7 @@ operands-give w f ps g =
 
 -- THEOREM: what a line makes is a record of its word
 pub record-fits : (w : Word) (ps : List (List ℕ)) → Holds (Fits w) (recordFor w ps)
-unfolding recordFor Columns
+unfolding recordFor
 record-fits Shares ps =
     fields-holds Shares 1 ps (readCount (field 1 ps) >>= λ k. some (shares k)) (λ e.
     bind-holds CountForm (Fits Shares) (readCount (field 1 ps)) (λ k. some (shares k))
@@ -191,6 +103,11 @@ record-fits App ps =
     assigned-fits App ps o
     (bind-any (Gives App) (readPlain (field 2 ps)) (λ f. readTerm (field 3 ps) >>= λ a. some (app f a)) (λ f.
     operand-gives App (field 3 ps) (λ a. some (app f a)) (λ a h n. fit-app h))))
+record-fits Let ps =
+    let o = readFormula (field 2 ps) in
+    fields-holds Let 2 ps (readName (field 1 ps) >>= λ n. o >>= λ f. some (letting n f)) (λ e.
+    bind-any (Fits Let) (readName (field 1 ps)) (λ n. o >>= λ f. some (letting n f)) (λ n.
+    bind-holds FormedFormula (Fits Let) o (λ f. some (letting n f)) (formula-formed (field 2 ps)) (λ f h. fit-let h)))
 record-fits Rand ps =
     fields-holds Rand 1 ps (assigned ps (some rand)) (λ e. assigned-fits Rand ps (some rand) (λ n. fit-rand))
 record-fits Result ps =

@@ -2,7 +2,7 @@
 -- Assumes nothing.
 use Prim.Native.Nat.{ℕ, _≤_}
 use native.Mathlib.Omega.{arith}
-use mathlib.Core.Path.{_≡_, refl, ap, sym, _∙_}
+use mathlib.Core.Path.{_≡_, refl, ap, sym, subst, _∙_}
 use mathlib.Core.Bool.{Bool, true, false, cond}
 use mathlib.Core.List.{List}
 use mathlib.Core.Option.{Option, none, some}
@@ -23,16 +23,20 @@ use Rattle.grammar.specs.declared.record.FormRead.the-variants as FormRead
 use Rattle.reader.specs.declared.cursor.Cursor.{Cursor}
 use Rattle.reader.specs.declared.cursor.Ahead.{Ahead}
 use Rattle.tokens.specs.Ascii.{all, allowed}
-use Rattle.tokens.specs.Token.{_>>=_, Name}
+use Rattle.tokens.specs.Token.{_>>=_, isSome, Name}
 use Rattle.grammar.specs.Line.{piecesIn, fieldIn}
-use Rattle.grammar.specs.Record.{Record, recordFor, output}
+use Rattle.tokens.specs.Limits.{mostDepth}
+use Rattle.grammar.specs.declared.formula.FormulaRead.{FormulaRead}
+use Rattle.grammar.specs.Formula.{Formula}
+use Rattle.grammar.specs.Measured.{MeasureIs}
+use Rattle.grammar.specs.Record.{Form, Record, recordFor, assign, output, nests}
 use Rattle.tokens.specs.Word.{wordOf}
-use Rattle.grammar.specs.Recorded.{recordIn, mapIn, assignIn, columnsOf, namesOf}
+use Rattle.grammar.specs.Recorded.{recordIn, formAt, mapIn, assignIn, letIn, columnsOf, formulaOf, namesOf}
 use Rattle.reader.specs.Cursor.{lookAt}
 use Rattle.reader.specs.Reader.{least, placed, given, refused, formed, bytesOf, lineGiven, lastGiven}
 use Rattle.reader.specs.Reader.{aheadGiven, recordAhead, behindOf, placeBehind}
 use Rattle.reader.specs.declared.handed.Handed.{Handed}
-use Rattle.reader.specs.Handed.{givenIn, HandedIs, isSome, hasForm, hasFields}
+use Rattle.reader.specs.Handed.{givenIn, HandedIs, hasForm, hasFields, deep, nestsIn}
 
 -- ---- places
 
@@ -83,9 +87,29 @@ pub told-some : {A : Type 0} (b : Bool) (a : A) → b ≡ isSome (cond b (some a
 told-some true a = refl
 told-some false a = refl
 
+-- whether a formula was read
+pub measure-some : (r : FormulaRead) (o : Option Formula) → MeasureIs r o → r .ok ≡ isSome o
+measure-some r none h = h
+measure-some r (some f) h = h .0
+
+-- a formula that was read nests above 8 where its depth says so
+pub measure-deep : (r : FormulaRead) (o : Option Formula) → MeasureIs r o → r .ok ≡ true
+    → ltb mostDepth (r .depth) ≡ deep o
+measure-deep r none h e = let z : _≡_ {A = ℕ} 0 1 = cc in absurd (omega arith)
+measure-deep r (some f) h e = ap (ltb mostDepth) (h .1)
+
+-- nothing that was not read nests
+pub measure-none : (r : FormulaRead) (o : Option Formula) → MeasureIs r o → r .ok ≡ false → false ≡ deep o
+measure-none r none h e = refl
+measure-none r (some f) h e = let z : _≡_ {A = ℕ} 0 1 = cc (h .0) in absurd (omega arith)
+
 map-some : (x : Name) (v : ℕ) (o : Option (List ℕ)) → isSome (mapIn x v o) ≡ isSome o
 map-some x v none = refl
 map-some x v (some l) = refl
+
+let-some : (x : Name) (o : Option Formula) → isSome (letIn x o) ≡ isSome o
+let-some x none = refl
+let-some x (some f) = refl
 
 names-some : (o : Option (List Name)) → isSome (o >>= λ xs. some (output xs)) ≡ isSome o
 names-some none = refl
@@ -126,6 +150,8 @@ fields-some s ps (Rec.Input NameRead.Bad) = refl
 fields-some s ps Rec.Origin = refl
 fields-some s ps (Rec.Assign (NameRead.Name n) f) = form-some s _ f
 fields-some s ps (Rec.Assign NameRead.Bad f) = refl
+fields-some s ps (Rec.Let (NameRead.Name n)) = let-some _ (formulaOf ps)
+fields-some s ps (Rec.Let NameRead.Bad) = refl
 fields-some s ps (Rec.Result (NameRead.Name n)) = refl
 fields-some s ps (Rec.Result NameRead.Bad) = refl
 fields-some s ps Rec.Masked = refl
@@ -133,10 +159,61 @@ fields-some s ps Rec.Output = names-some (namesOf ps)
 
 -- ---- a line that its line feed ends
 
-formed-some : (l : Line) (c : Cursor) (o : Option Record) → isSome o ≡ true
+-- where a record nests, told of an answer that holds one
+abbrev Nests : Bool → Option Record → Type 0
+Nests b none = Unit {0}
+Nests b (some x) = nests x ≡ b
+
+let-nests : (x : Name) (o : Option Formula) → Nests (deep o) (letIn x o)
+unfolding nests
+let-nests x none = tt
+let-nests x (some f) = refl
+
+map-nests : (x : Name) (v : ℕ) (o : Option (List ℕ)) → Nests false (mapIn x v o)
+unfolding nests
+map-nests x v none = tt
+map-nests x v (some l) = refl
+
+form-nests : (x : Name) (o : Option Form) → Nests false (o >>= λ y. some (assign x y))
+unfolding nests
+form-nests x none = tt
+form-nests x (some f) = refl
+
+names-nests : (o : Option (List Name)) → Nests false (o >>= λ xs. some (output xs))
+unfolding nests
+names-nests none = tt
+names-nests (some l) = refl
+
+-- the record that the code's record stands for nests where the code's does
+nests-told : (s : List ℕ) (ps : List (List ℕ)) (r : Rec) → Nests (nestsIn ps r) (recordIn s ps r)
+unfolding recordIn nests
+nests-told s ps Rec.Bad = tt
+nests-told s ps (Rec.Shares (Number.Value k)) = refl
+nests-told s ps (Rec.Shares Number.Bad) = tt
+nests-told s ps (Rec.Map (NameRead.Name n) (Number.Value c)) = map-nests _ c (columnsOf ps)
+nests-told s ps (Rec.Map (NameRead.Name n) Number.Bad) = tt
+nests-told s ps (Rec.Map NameRead.Bad c) = tt
+nests-told s ps (Rec.Input (NameRead.Name n)) = refl
+nests-told s ps (Rec.Input NameRead.Bad) = tt
+nests-told s ps Rec.Origin = refl
+nests-told s ps (Rec.Assign (NameRead.Name n) f) = form-nests _ (formAt s f)
+nests-told s ps (Rec.Assign NameRead.Bad f) = tt
+nests-told s ps (Rec.Let (NameRead.Name n)) = let-nests _ (formulaOf ps)
+nests-told s ps (Rec.Let NameRead.Bad) = tt
+nests-told s ps (Rec.Result (NameRead.Name n)) = refl
+nests-told s ps (Rec.Result NameRead.Bad) = tt
+nests-told s ps Rec.Masked = refl
+nests-told s ps Rec.Output = names-nests (namesOf ps)
+
+formed-some : (l : Line) (c : Cursor) (o : Option Record) → isSome o ≡ true → Nests false o
     → (o >>= λ x. some (given l x c)) ≡ some (formed l c o)
-formed-some l c none e = let z : _≡_ {A = ℕ} 0 1 = cc in absurd (omega arith)
-formed-some l c (some r) e = refl
+formed-some l c none e n = let z : _≡_ {A = ℕ} 0 1 = cc in absurd (omega arith)
+formed-some l c (some r) e n = rw n
+
+formed-deep : (l : Line) (c : Cursor) (o : Option Record) → isSome o ≡ true → Nests true o
+    → refused 13 c ≡ formed l c o
+formed-deep l c none e n = let z : _≡_ {A = ℕ} 0 1 = cc in absurd (omega arith)
+formed-deep l c (some r) e n = rw n
 
 formed-none : (l : Line) (c : Cursor) (o : Option Record) → isSome o ≡ false → refused 5 c ≡ formed l c o
 formed-none l c none e = refl
@@ -154,11 +231,21 @@ module _ (s : List ℕ) (l : Line) (c : Cursor) where
     unfolding lineGiven
     line-formed = ap (formed l c) (reads ∙ ap (λ (x : Word). recordFor x (piecesIn s l)) told) ∙ rw clean
 
-    -- every field was read: the record
-    pub line-record : true ≡ hasFields (piecesIn s l) r
+    -- every field was read, and the record does not nest above 8
+    pub line-record : true ≡ hasFields (piecesIn s l) r → false ≡ nestsIn (piecesIn s l) r
         → (recordIn s (piecesIn s l) r >>= λ x. some (given l x c)) ≡ some (lineGiven s l c)
-    line-record e =
-        formed-some l c (recordIn s (piecesIn s l) r) (fields-some s (piecesIn s l) r ∙ sym e) ∙ ap some line-formed
+    line-record e n =
+        formed-some l c (recordIn s (piecesIn s l) r) (fields-some s (piecesIn s l) r ∙ sym e)
+        (subst (λ (b : Bool). Nests b (recordIn s (piecesIn s l) r)) (sym n) (nests-told s (piecesIn s l) r))
+        ∙ ap some line-formed
+
+    -- every field was read, and the record nests above 8: refusal 13
+    pub line-deep : true ≡ hasFields (piecesIn s l) r → true ≡ nestsIn (piecesIn s l) r
+        → refused 13 c ≡ lineGiven s l c
+    line-deep e n =
+        formed-deep l c (recordIn s (piecesIn s l) r) (fields-some s (piecesIn s l) r ∙ sym e)
+        (subst (λ (b : Bool). Nests b (recordIn s (piecesIn s l) r)) (sym n) (nests-told s (piecesIn s l) r))
+        ∙ line-formed
 
     -- a field was not read: refusal 5
     pub line-unformed : false ≡ hasFields (piecesIn s l) r → refused 5 c ≡ lineGiven s l c
@@ -175,7 +262,11 @@ last-told s l c e = ap (λ (b : Bool). refused (cond b 4 3) c) e
 
 behind-formed : (p : Cursor) (l : Line) (c : Cursor) (o : Option Record) → behindOf p (formed l c o) ≡ c
 behind-formed p l c none = refl
-behind-formed p l c (some r) = refl
+behind-formed p l c (some r) = go (nests r)
+  where
+    go : (b : Bool) → behindOf p (cond b (refused 13 c) (given l r c)) ≡ c
+    go true = refl
+    go false = refl
 
 -- behind a line that its line feed ends
 pub behind-line : (s : List ℕ) (p : Cursor) (l : Line) (c : Cursor) → behindOf p (lineGiven s l c) ≡ c

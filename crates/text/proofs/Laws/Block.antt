@@ -102,7 +102,7 @@ module _ (s : List ℕ) (h : Kept) (K : Sound (h .known)) (Z : Sized h) (drawn :
 
   -- one statement more in its block
   pub stated-means : h .known .stage ≤ inMasked
-      → stateIn s (after h (stepOf 0 (stated (h .known) drawn) (Stated x st)))
+      → stateIn s (after s h (stepOf 0 (stated (h .known) drawn) (Stated x st)))
       ≡ cond (eqb (h .known .stage) inMasked) (withMasked drawn (nameIn s x) st (stateIn s h))
       (withOrigin (nameIn s x) st (stateIn s h))
   unfolding after stepOf held

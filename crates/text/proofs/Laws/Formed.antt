@@ -8,26 +8,31 @@ use mathlib.Core.Bool.{Bool, true, false, _||_, cond}
 use mathlib.Core.List.{List, [], _∷_, _++_}
 use mathlib.Core.Option.{none}
 use lib.Dec.{ltb, eqb}
+use lib.ListN.{length}
 use borrow.Author.Tests.{ltb-false}
 use Rattle.tokens.specs.declared.word.Word.{Word}
-use Rattle.tokens.specs.declared.word.Word.the-variants.{Shares, Map, Input, Origin, Set, Xor, Mul, App, Rand}
-use Rattle.tokens.specs.declared.word.Word.the-variants.{Result, Masked, Output, Unknown}
+use Rattle.tokens.specs.declared.word.Word.the-variants.{Shares, Map, Input, Origin, Set, Xor, Mul, App, Let}
+use Rattle.tokens.specs.declared.word.Word.the-variants.{Rand, Result, Masked, Output, Unknown}
 use Rattle.text.specs.declared.types.Statement.{Statement}
-use Rattle.tokens.specs.Token.{Name, Term, name, byte}
-use Rattle.grammar.specs.Record.{Form, set, xor, mul, app, rand, Record, shares, origin, assign}
+use Rattle.tokens.specs.Token.{Name}
+use Rattle.grammar.specs.Formula.{Formula}
+use Rattle.grammar.specs.Record.{Form, set, xor, mul, app, rand, Record, shares, origin, assign, letting}
 use Rattle.grammar.specs.Record.{masked}
 use Rattle.text.specs.Order.{atStart, inMasked, mayStand, stageAfter}
 use Rattle.text.specs.State.{State, start}
 use Rattle.text.specs.Grown.{atStage, withShares, withMap, withInput, withOrigin, withMasked}
+use Rattle.text.specs.Grown.{withOriginAll, withMaskedAll}
 use Rattle.text.specs.Grown.{withResult, withOutputs}
 use Rattle.text.specs.Scope.{block, drawn, statementCount, exceeds}
 use Rattle.text.specs.Limits.{mostVariables, mostInputs, mostStatements}
-use Rattle.text.specs.Scope.{operandIn, opIn, added}
+use Rattle.text.specs.Scope.{opIn, letOps, stated, added}
 use Rattle.text.specs.Read.{routine, readText}
-use Rattle.text.specs.Formed.{Each, FormedOperand, FormedOp, FormedStatement, FormedMap, Formed}
+use Rattle.text.specs.Formed.{Each, FormedOp, FormedStatement, FormedMap, Formed}
 use Rattle.text.proofs.Laws.Keeping.{Accepts, read-keeps}
-use Rattle.grammar.proofs.Laws.Fits.{FormedTerm, Fits, fit-shares, fit-map, fit-input, fit-origin, fit-set}
-use Rattle.grammar.proofs.Laws.Fits.{fit-xor, fit-mul, fit-app, fit-rand, fit-result, fit-masked, fit-output}
+use Rattle.text.proofs.Laws.Letting.{operand-formed, let-formed}
+use Rattle.grammar.proofs.Laws.Holding.{FormedTerm, FormedFormula}
+use Rattle.grammar.proofs.Laws.Fits.{Fits, fit-shares, fit-map, fit-input, fit-origin, fit-set, fit-xor, fit-mul}
+use Rattle.grammar.proofs.Laws.Fits.{fit-app, fit-let, fit-rand, fit-result, fit-masked, fit-output}
 
 each-more : {X : Type 0} (P : X → Type 0) (xs : List X) (x : X) → Each P xs → P x → Each P (xs ++ x ∷ [])
 each-more P [] x h k = (k, tt)
@@ -64,16 +69,12 @@ moves Set stage m e = false-true (subst (λ (k : ℕ). mayStand Set k ≡ true) 
 moves Xor stage m e = false-true (subst (λ (k : ℕ). mayStand Xor k ≡ true) e m)
 moves Mul stage m e = false-true (subst (λ (k : ℕ). mayStand Mul k ≡ true) e m)
 moves App stage m e = false-true (subst (λ (k : ℕ). mayStand App k ≡ true) e m)
+moves Let stage m e = false-true (subst (λ (k : ℕ). mayStand Let k ≡ true) e m)
 moves Rand stage m e = false-true (subst (λ (k : ℕ). mayStand Rand k ≡ true) e m)
 moves Result stage m e = omega arith
 moves Masked stage m e = omega arith
 moves Output stage m e = omega arith
 moves Unknown stage m e = false-true m
-
-operand-formed : (ms : List Name) (a : Term) → FormedTerm a → FormedOperand (operandIn ms a)
-unfolding operandIn
-operand-formed ms (name n) h = tt
-operand-formed ms (byte b) h = h
 
 -- what a form's operands have to be
 abbrev FormedForm : Form → Type 0
@@ -141,6 +142,34 @@ module _ (s : State) (K : Kept s) (n stage : ℕ) (moved : stage ≡ atStart →
         begun = λ e. absurd (moved e);
       }
 
+  let-kept : (x : Name) (f : Formula) → FormedFormula f → Kept (atStage stage (added n (letting x f) s))
+  unfolding atStage added withMaskedAll withOriginAll
+  let-kept x f h = go (eqb (s .stage) inMasked)
+    where
+      ms : List Name
+      ms = block s .names
+
+      sts : List Statement
+      sts = stated n (letOps ms (s .mapNames) (length ms) f)
+
+      go : (b : Bool) → Kept (atStage stage (cond b (withMaskedAll x sts s) (withOriginAll x sts s)))
+      go true = record {
+        maps = K .maps;
+        origin = K .origin;
+        masked = let-formed ms (s .mapNames) (length ms) n f h (s .masked .statements) (K .masked);
+        fits = K .fits;
+        room = K .room;
+        begun = λ e. absurd (moved e);
+      }
+      go false = record {
+        maps = K .maps;
+        origin = let-formed ms (s .mapNames) (length ms) n f h (s .origin .statements) (K .origin);
+        masked = K .masked;
+        fits = K .fits;
+        room = K .room;
+        begun = λ e. absurd (moved e);
+      }
+
 -- a record that may stand and exceeds nothing
 added-kept : (s : State) → Kept s → (n : ℕ) {w : Word} {r : Record} → Fits w r → mayStand w (s .stage) ≡ true
     → exceeds s r ≡ false
@@ -187,6 +216,7 @@ added-kept s K n (fit-mul {n = x} {a = a} {b = b} h k) m e = assign-kept s K n (
     (mul a b) (h, k) e
 added-kept s K n (fit-app {n = x} {f = f} {a = a} h) m e = assign-kept s K n (s .stage) (moves App (s .stage) m) x
     (app f a) h e
+added-kept s K n (fit-let {n = x} {f = f} h) m e = let-kept s K n (s .stage) (moves Let (s .stage) m) x f h
 added-kept s K n (fit-rand {n = x}) m e = assign-kept s K n (s .stage) (moves Rand (s .stage) m) x rand tt e
 added-kept s K n fit-result m e = record {
   maps = K .maps;

@@ -1,4 +1,4 @@
--- Reading a line goes by what the reader hands out for it: a refusal 3 or 5 stops it, a record is taken.
+-- Reading a line goes by what the reader hands out for it: a refusal 3, 5 or 13 stops it, a record is taken.
 -- Assumes nothing.
 use Prim.Native.Nat.{ℕ}
 use mathlib.Core.Path.{_≡_, refl}
@@ -10,11 +10,11 @@ use Rattle.tokens.specs.declared.word.Word.{Word}
 use Rattle.reader.specs.declared.cursor.Cursor.{Cursor}
 use Rattle.tokens.specs.Ascii.{all, allowed}
 use Rattle.grammar.specs.Line.{piecesIn, fieldIn}
-use Rattle.grammar.specs.Record.{Record, recordFor}
+use Rattle.grammar.specs.Record.{Record, recordFor, nests}
 use Rattle.tokens.specs.Word.{wordOf}
 use Rattle.reader.specs.Reader.{Given, given, refused, ended, formed, bytesOf, lineGiven}
 use Rattle.text.specs.State.{State}
-use Rattle.text.specs.Read.{Outcome, stop, takeRecord, takePieces, takeLine}
+use Rattle.text.specs.Read.{Outcome, stop, firstOf, unless, takeRecord, takePieces, takeLine}
 
 -- what a line of the word w leads to, by what is handed out for it
 abbrev pub takeGiven : State → ℕ → Word → Given → Outcome
@@ -24,9 +24,14 @@ takeGiven st n w ended = stop 0
 
 formed-taken : (st : State) (n : ℕ) (w : Word) (l : Line) (c : Cursor) (o : Option Record)
     → takeRecord st n w o ≡ takeGiven st n w (formed l c o)
-unfolding takeRecord
+unfolding takeRecord firstOf unless
 formed-taken st n w l c none = refl
-formed-taken st n w l c (some r) = refl
+formed-taken st n w l c (some r) = go (nests r) refl
+  where
+    go : (b : Bool) → nests r ≡ b
+        → takeRecord st n w (some r) ≡ takeGiven st n w (cond b (refused 13 c) (given l r c))
+    go true e = rw e
+    go false e = refl
 
 -- a line that its line feed ends leads to what its handed out record or refusal leads to
 pub given-taken : (st : State) (n : ℕ) (s : List ℕ) (l : Line) (c : Cursor)

@@ -13,7 +13,7 @@ use borrow.Author.Tests.{not-false, eqb-true}
 use Rattle.tokens.specs.declared.word.Word.{Word}
 use Rattle.tokens.specs.Ascii.{all, allowed, tab, lineFeed}
 use Rattle.tokens.specs.Split.{pieces}
-use Rattle.grammar.specs.Record.{Record, field, recordFor}
+use Rattle.grammar.specs.Record.{Record, field, recordFor, nests}
 use Rattle.tokens.specs.Word.{wordOf}
 use Rattle.text.specs.Order.{mayStand, stageAfter, atEnd}
 use Rattle.text.specs.State.{State, start}
@@ -22,10 +22,12 @@ use Rattle.text.specs.Scope.{repeats, readsUnknown, exceeds, miscounts, 
 use Rattle.text.specs.Read.{Routine, Reading, refused, accepted, Fault, firstOf, Outcome, stop, next, unless}
 use Rattle.text.specs.Read.{takeRecord, takePieces, takeLine, routine, takeLast, follow, takeLines, readText}
 use Rattle.text.specs.Limits.{mostBytes}
-use Rattle.grammar.proofs.Laws.Fits.{Holds, Fits, record-fits}
+use Rattle.grammar.proofs.Laws.Holding.{Holds}
+use Rattle.grammar.proofs.Laws.Fits.{Fits, record-fits}
 
 -- a record that no refusal stops
 pub record Passed (s : State) (w : Word) (r : Record) : Type 0 where
+  pub shallow : nests r ≡ false
   pub stands : mayStand w (s .stage) ≡ true
   pub fresh : repeats s r ≡ false
   pub known : readsUnknown s r ≡ false
@@ -55,20 +57,23 @@ no-fault e true fs z h = absurd (z h)
 no-fault e false fs z h = (refl, h)
 
 passed : (s : State) (w : Word) (r : Record)
-    → firstOf ((6, not (mayStand w (s .stage))) ∷ (7, repeats s r) ∷ (8, readsUnknown s r) ∷ (9, exceeds s r)
-    ∷ (10, miscounts s r) ∷ []) ≡ 0
+    → firstOf ((13, nests r) ∷ (6, not (mayStand w (s .stage))) ∷ (7, repeats s r) ∷ (8, readsUnknown s r)
+    ∷ (9, exceeds s r) ∷ (10, miscounts s r) ∷ []) ≡ 0
     → Passed s w r
 passed s w r z =
     let five : List Fault = (10, miscounts s r) ∷ [] in
     let four : List Fault = (9, exceeds s r) ∷ five in
     let three : List Fault = (8, readsUnknown s r) ∷ four in
     let two : List Fault = (7, repeats s r) ∷ three in
-    let a = no-fault 6 (not (mayStand w (s .stage))) two (λ e. omega arith) z in
+    let one : List Fault = (6, not (mayStand w (s .stage))) ∷ two in
+    let n = no-fault 13 (nests r) one (λ e. omega arith) z in
+    let a = no-fault 6 (not (mayStand w (s .stage))) two (λ e. omega arith) (n .1) in
     let b = no-fault 7 (repeats s r) three (λ e. omega arith) (a .1) in
     let c = no-fault 8 (readsUnknown s r) four (λ e. omega arith) (b .1) in
     let d = no-fault 9 (exceeds s r) five (λ e. omega arith) (c .1) in
     let f = no-fault 10 (miscounts s r) [] (λ e. omega arith) (d .1) in
     record {
+      shallow = n .0;
       stands = not-false (mayStand w (s .stage)) (a .0);
       fresh = b .0;
       known = c .0;
@@ -86,8 +91,8 @@ module _ (P : State → Type 0) (Q : Routine → Type 0) (begins : P start)
   record-keeps s p n w none h = tt
   record-keeps s p n w (some r) h =
       unless-behind P
-      (firstOf ((6, not (mayStand w (s .stage))) ∷ (7, repeats s r) ∷ (8, readsUnknown s r) ∷ (9, exceeds s r)
-      ∷ (10, miscounts s r) ∷ []))
+      (firstOf ((13, nests r) ∷ (6, not (mayStand w (s .stage))) ∷ (7, repeats s r) ∷ (8, readsUnknown s r)
+      ∷ (9, exceeds s r) ∷ (10, miscounts s r) ∷ []))
       (atStage (stageAfter w (s .stage)) (added n r s)) (λ z. keeps s p n w r h (passed s w r z))
 
   line-keeps : (s : State) → P s → (n : ℕ) (l : List ℕ) → Behind P (takeLine s n l)

@@ -9,7 +9,7 @@ use Rattle.tokens.specs.Token.{Name}
 use Rattle.grammar.specs.Line.{nameIn}
 use Rattle.text.specs.declared.types.AffineMap.{AffineMap}
 use Rattle.text.specs.declared.known.Known.{Known}
-use Rattle.text.specs.declared.step.Put.the-variants.{Nothing, Map, Input, Stated}
+use Rattle.text.specs.declared.step.Put.the-variants.{Nothing, Map, Input, Stated, Let}
 use Rattle.text.specs.declared.step.Put.{Put}
 use Rattle.text.specs.Grown.{withMap, withInput}
 use Rattle.text.specs.Scope.{shareNames}
@@ -18,6 +18,7 @@ use Rattle.text.specs.Names.{listed, namesIn, put}
 use Rattle.text.specs.Known.{Kept, stateIn, Sound, Sized, InputFits, inputAdded, tableAfter, after}
 use Rattle.text.specs.Taken.{stepOf}
 use Rattle.text.proofs.Laws.Arrays.{front-more}
+use Rattle.text.proofs.Laws.Lets.{let-size}
 use Rattle.text.proofs.Laws.Named.{put-length, listed-apart, listed-next}
 use Rattle.text.proofs.Laws.Shares.{shares-length, shares-apart, listed-shares}
 
@@ -29,6 +30,7 @@ table-length t k (Input x) =
     shares-length (put t (originFrom + k .wholes) x) (maskedFrom + k .parts) x (k .shares)
     ∙ put-length t (originFrom + k .wholes) x
 table-length t k (Stated x st) = put-length t _ x
+table-length t k (Let x f) = let-size t _ x (f .count)
 
 module _ (s : List ℕ) (h : Kept) (K : Sound (h .known)) (Z : Sized h) (x : NameRef) where
   -- one map more, with its name
@@ -47,7 +49,7 @@ module _ (s : List ℕ) (h : Kept) (K : Sound (h .known)) (Z : Sized h) (x : Nam
         outputs = h .known .outputs;
         named = h .known .named;
       }
-      → stateIn s (after h (record { refusal = 0; known = j; put = Map x; map = f }))
+      → stateIn s (after s h (record { refusal = 0; known = j; put = Map x; map = f }))
       ≡ withMap (nameIn s x) f (stateIn s h)
   unfolding stateIn after withMap namesIn
   map-means f j few e =
@@ -61,7 +63,7 @@ module _ (s : List ℕ) (h : Kept) (K : Sound (h .known)) (Z : Sized h) (x : Nam
       let masked = listed-apart t m x s maskedFrom (k .parts) (λ i a b q. omega arith) in
       let room : m < length (h .arrays .maps) = omega (arith, Z .maps) in
       let maps = front-more (h .arrays .maps) f m room in
-      ap (λ (q : Known). stateIn s (after h (record { refusal = 0; known = q; put = Map x; map = f }))) e
+      ap (λ (q : Known). stateIn s (after s h (record { refusal = 0; known = q; put = Map x; map = f }))) e
       ∙ (λ i. record {
         stage = k .stage;
         shares = k .shares;
@@ -81,7 +83,7 @@ module _ (s : List ℕ) (h : Kept) (K : Sound (h .known)) (Z : Sized h) (x : Nam
 
   -- one input more, with its shares
   pub input-means : InputFits (h .known)
-      → stateIn s (after h (stepOf 0 (inputAdded (h .known)) (Input x)))
+      → stateIn s (after s h (stepOf 0 (inputAdded (h .known)) (Input x)))
       ≡ withInput (nameIn s x) (shareNames (nameIn s x) 0 (h .known .shares)) (stateIn s h)
   unfolding stateIn after stepOf withInput namesIn
   input-means f =

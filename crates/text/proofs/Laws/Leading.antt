@@ -2,19 +2,19 @@
 use Prim.Native.Nat.{ℕ, zero, suc}
 use native.Mathlib.Omega.{arith}
 use mathlib.Core.Path.{_≡_, refl, sym, _∙_, ap}
-use mathlib.Core.Bool.{true, false}
+use mathlib.Core.Bool.{Bool, true, false, cond}
 use mathlib.Core.List.{List}
 use mathlib.Core.Option.{Option, none, some}
 use Rattle.tokens.specs.declared.word.Word.{Word}
 use Rattle.tokens.specs.Ascii.{all, allowed, tab}
 use Rattle.tokens.specs.Split.{pieces}
-use Rattle.grammar.specs.Record.{Record, field, recordFor}
+use Rattle.grammar.specs.Record.{Record, field, recordFor, nests}
 use Rattle.tokens.specs.Word.{wordOf}
 use Rattle.text.specs.Order.{mayStand, stageAfter}
 use Rattle.text.specs.State.{State}
 use Rattle.text.specs.Grown.{atStage}
 use Rattle.text.specs.Scope.{repeats, readsUnknown, exceeds, miscounts, added}
-use Rattle.text.specs.Read.{Outcome, stop, next, unless, takeRecord, takePieces, takeLine}
+use Rattle.text.specs.Read.{Outcome, stop, next, firstOf, unless, takeRecord, takePieces, takeLine}
 use Rattle.text.specs.Taken.{firstFault, faultOf, takes}
 use Rattle.text.proofs.Laws.Taking.{no-faults}
 
@@ -44,12 +44,16 @@ unfolding unless stateOr
 same-next zero x a g q = (refl, ap (λ (o : Outcome). next (g (stateOr x o))) q)
 same-next (suc f) x a g q = clash (sym q)
 
+not-deep : (b : Bool) {e : ℕ} → cond b 13 e ≡ 0 → e ≡ 0
+not-deep true q = absurd (omega arith)
+not-deep false q = q
+
 module _ (st : State) (n : ℕ) (w : Word) where
   -- a refusal
   pub record-stops : (o : Option Record) (e : ℕ) (x : State) → (e ≡ 0 → ⊥)
       → unless e x ≡ takes st n (mayStand w (st .stage)) o
       → unless e x ≡ takeRecord st n w o
-  unfolding takes takeRecord faultOf firstFault
+  unfolding takes takeRecord faultOf firstFault firstOf
   record-stops none e x h q = q
   record-stops (some r) e x h q =
       same-stop e (faultOf st (mayStand w (st .stage)) r) x (added n r st)
@@ -58,13 +62,13 @@ module _ (st : State) (n : ℕ) (w : Word) where
   -- the record is taken
   pub record-goes : (o : Option Record) (x : State) → unless 0 x ≡ takes st n (mayStand w (st .stage)) o
       → (mayStand w (st .stage) ≡ true) × (unless 0 (atStage (stageAfter w (st .stage)) x) ≡ takeRecord st n w o)
-  unfolding takes takeRecord faultOf firstFault unless
+  unfolding takes takeRecord faultOf firstFault firstOf unless
   record-goes none x q = clash (sym q)
   record-goes (some r) x q =
       let p = same-next (faultOf st (mayStand w (st .stage)) r) x (added n r st)
       (atStage (stageAfter w (st .stage))) q in (
         no-faults (mayStand w (st .stage)) (repeats st r) (readsUnknown st r) (exceeds st r) (miscounts st r) refl
-            (p .0) .0,
+            (not-deep (nests r) (p .0)) .0,
         p .1,
       )
 

@@ -9,24 +9,27 @@ use lib.Dec.{ltb, eqb}
 use lib.ListN.{length, length-append}
 use borrow.Author.Tests.{ltb-false}
 use Rattle.tokens.specs.declared.word.Word.{Word}
-use Rattle.tokens.specs.declared.word.Word.the-variants.{Map, Input, Origin, Set, Xor, Mul, App, Rand}
+use Rattle.tokens.specs.declared.word.Word.the-variants.{Map, Input, Origin, Set, Xor, Mul, App, Let, Rand}
 use Rattle.tokens.specs.declared.word.Word.the-variants.{Result, Masked, Output}
 use Rattle.text.specs.declared.types.Statement.{Statement}
 use Rattle.tokens.specs.Token.{Name}
-use Rattle.grammar.specs.Record.{Form, set, xor, mul, app, rand, Record, assign}
+use Rattle.grammar.specs.Formula.{Formula}
+use Rattle.grammar.specs.Record.{Form, set, xor, mul, app, rand, Record, assign, letting}
 use Rattle.text.specs.Order.{atStart, inMasked, mayStand, stageAfter}
 use Rattle.text.specs.State.{State, start}
 use Rattle.text.specs.Grown.{atStage, withShares, withMap, withInput, withOrigin, withMasked}
+use Rattle.text.specs.Grown.{withOriginAll, withMaskedAll}
 use Rattle.text.specs.Grown.{withResult, withOutputs}
 use Rattle.text.specs.Scope.{drawn, statementCount, exceeds}
 use Rattle.text.specs.Limits.{mostMaps, mostInputs, mostVariables, mostStatements}
-use Rattle.text.specs.Scope.{opIn}
+use Rattle.text.specs.Scope.{opIn, letCount, letOps, stated}
 use Rattle.text.specs.Scope.{block, added}
 use Rattle.text.specs.Read.{routine, readText}
 use Rattle.text.specs.Ranged.{Limited}
 use Rattle.grammar.proofs.Laws.Fits.{Fits, fit-shares, fit-map, fit-input, fit-origin, fit-set, fit-xor, fit-mul}
-use Rattle.grammar.proofs.Laws.Fits.{fit-app, fit-rand, fit-result, fit-masked, fit-output}
+use Rattle.grammar.proofs.Laws.Fits.{fit-app, fit-let, fit-rand, fit-result, fit-masked, fit-output}
 use Rattle.text.proofs.Laws.Reads.{or-false}
+use Rattle.text.proofs.Laws.Letting.{let-length}
 use Rattle.text.proofs.Laws.Keeping.{Passed, Accepts, read-keeps}
 
 record Bounded (s : State) : Type 0 where
@@ -92,6 +95,39 @@ module _ (s : State) (K : Bounded s) (n k : ℕ) (b : s .stage ≡ atStart → �
         statements = omega (arith, room, length-append (s .origin .statements) (st ∷ []));
       }
 
+  let-bounded : (x : Name) (f : Formula) → exceeds s (letting x f) ≡ false
+      → Bounded (atStage k (added n (letting x f) s))
+  unfolding atStage added exceeds statementCount withMaskedAll withOriginAll
+  let-bounded x f e = go (eqb (s .stage) inMasked)
+    where
+      ms : List Name
+      ms = block s .names
+
+      sts : List Statement
+      sts = stated n (letOps ms (s .mapNames) (length ms) f)
+
+      room : statementCount s + letCount f ≤ mostStatements
+      room = ltb-false mostStatements (statementCount s + letCount f) e
+
+      count : length sts ≡ letCount f
+      count = let-length ms (s .mapNames) (length ms) n f
+
+      go : (t : Bool) → Bounded (atStage k (cond t (withMaskedAll x sts s) (withOriginAll x sts s)))
+      go true = record {
+        begun = λ h. K .begun b;
+        shares = K .shares;
+        maps = K .maps;
+        inputs = K .inputs;
+        statements = omega (arith, room, count, length-append (s .masked .statements) sts);
+      }
+      go false = record {
+        begun = λ h. K .begun b;
+        shares = K .shares;
+        maps = K .maps;
+        inputs = K .inputs;
+        statements = omega (arith, room, count, length-append (s .origin .statements) sts);
+      }
+
 added-bounded : (s : State) → Bounded s → (n : ℕ) {w : Word} {r : Record} → Fits w r → Passed s w r
     → Bounded (atStage (stageAfter w (s .stage)) (added n r s))
 unfolding atStage added exceeds withShares withMap withInput withResult withOutputs
@@ -130,6 +166,8 @@ added-bounded s K n (fit-mul {n = x} {a = a} {b = b} h k) p =
     assign-bounded s K n (s .stage) (behind s Mul refl (p .stands)) x (mul a b) (p .within)
 added-bounded s K n (fit-app {n = x} {f = f} {a = a} h) p =
     assign-bounded s K n (s .stage) (behind s App refl (p .stands)) x (app f a) (p .within)
+added-bounded s K n (fit-let {n = x} {f = f} h) p =
+    let-bounded s K n (s .stage) (behind s Let refl (p .stands)) x f (p .within)
 added-bounded s K n (fit-rand {n = x}) p =
     assign-bounded s K n (s .stage) (behind s Rand refl (p .stands)) x rand (p .within)
 added-bounded s K n fit-result p = record {

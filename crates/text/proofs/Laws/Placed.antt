@@ -225,6 +225,11 @@ module _ (s : State) (K : Placed s) (n : ℕ) where
         counted = λ z. let y : atEnd ≤ s .stage = z in absurd (omega arith);
       }
 
+  -- a statement that does not stand in the masked block stands in the origin block
+  pub in-origin : (s .stage ≡ inOrigin) ⊎ (s .stage ≡ inMasked) → (s .stage ≡ inMasked → ⊥) → s .stage ≡ inOrigin
+  in-origin (inl e) k = e
+  in-origin (inr e) k = absurd (k e)
+
   -- a statement, wherever it stands
   pub assign-placed : (x : Name) (f : Form) → (s .stage ≡ inOrigin) ⊎ (s .stage ≡ inMasked)
       → (s .stage ≡ inOrigin → drawn f ≡ 0)
@@ -232,10 +237,6 @@ module _ (s : State) (K : Placed s) (n : ℕ) where
   unfolding added readsUnknown block
   assign-placed x f w d h = go (eqb (s .stage) inMasked) refl h
     where
-      first : (s .stage ≡ inOrigin) ⊎ (s .stage ≡ inMasked) → (s .stage ≡ inMasked → ⊥) → s .stage ≡ inOrigin
-      first (inl e) k = e
-      first (inr e) k = absurd (k e)
-
       go : (b : Bool) → eqb (s .stage) inMasked ≡ b
           → unknownForm ((cond b (s .masked) (s .origin)) .names) (s .mapNames) f ≡ false
           → Placed (atStage (s .stage)
@@ -248,7 +249,7 @@ module _ (s : State) (K : Placed s) (n : ℕ) where
           masked-placed x f (eqb-true (s .stage) inMasked t) k
           (record { op = opIn (s .masked .names) (s .mapNames) (s .variables) f; line = n }) refl
       go false t k =
-          let e : s .stage ≡ inOrigin = first w (eqb-false (s .stage) inMasked t) in
+          let e : s .stage ≡ inOrigin = in-origin w (eqb-false (s .stage) inMasked t) in
           origin-placed x f e (d e) k (record { op = opIn (s .origin .names) (s .mapNames) (s .variables) f; line = n })
           refl
 

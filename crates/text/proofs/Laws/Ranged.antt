@@ -20,11 +20,12 @@ use Rattle.text.specs.Scope.{miscounts, added}
 use Rattle.text.specs.Read.{routine, readText}
 use Rattle.text.specs.Ranged.{Ranged}
 use Rattle.grammar.proofs.Laws.Fits.{Fits, fit-shares, fit-map, fit-input, fit-origin, fit-set, fit-xor, fit-mul}
-use Rattle.grammar.proofs.Laws.Fits.{fit-app, fit-rand, fit-result, fit-masked, fit-output}
+use Rattle.grammar.proofs.Laws.Fits.{fit-app, fit-let, fit-rand, fit-result, fit-masked, fit-output}
 use Rattle.text.proofs.Laws.Reads.{one-of, at-most}
 use Rattle.text.proofs.Laws.Keeping.{Passed, Accepts, read-keeps}
 use Rattle.text.proofs.Laws.Placed.{Placed, start-placed, shares-placed, map-placed, input-placed}
 use Rattle.text.proofs.Laws.Placed.{stage-placed, assign-placed, result-placed, output-placed}
+use Rattle.text.proofs.Laws.LetPlaced.{let-placed}
 
 -- a record that no refusal stops
 added-placed : (s : State) → Placed s → (n : ℕ) {w : Word} {r : Record} → Fits w r → Passed s w r
@@ -46,6 +47,8 @@ added-placed s K n (fit-mul {n = x} {a = a} {b = b} h k) p =
     assign-placed s K n x (mul a b) (one-of (s .stage) inOrigin inMasked (p .stands)) (λ e. refl) (p .known)
 added-placed s K n (fit-app {n = x} {f = f} {a = a} h) p =
     assign-placed s K n x (app f a) (one-of (s .stage) inOrigin inMasked (p .stands)) (λ e. refl) (p .known)
+added-placed s K n (fit-let {n = x} {f = f} h) p =
+    let-placed s K n x f (one-of (s .stage) inOrigin inMasked (p .stands)) (p .known)
 added-placed s K n (fit-rand {n = x}) p =
     let e : s .stage ≡ inMasked = eqb-true (s .stage) inMasked (p .stands) in
     assign-placed s K n x rand (inr e) (λ z. absurd (omega arith)) (p .known)

@@ -1,4 +1,4 @@
--- THEOREM: a refused text has one of the refusals 2 to 10 of the table. Assumes nothing.
+-- THEOREM: a refused text has one of the refusals 2 to 10 of the table, or 13. Assumes nothing.
 use mathlib.Core.Path.{_≡_, refl}
 use mathlib.Core.Logic.{_⊎_, inl, inr}
 use Prim.Native.Nat.{ℕ, zero, suc, _+_, _≤_}
@@ -12,7 +12,7 @@ use Rattle.tokens.specs.declared.word.Word.{Word}
 use Rattle.tokens.specs.Ascii.{all, allowed, tab, lineFeed}
 use Rattle.tokens.specs.Byte.{Each}
 use Rattle.tokens.specs.Split.{pieces}
-use Rattle.grammar.specs.Record.{Record, field, recordFor}
+use Rattle.grammar.specs.Record.{Record, field, recordFor, nests}
 use Rattle.tokens.specs.Word.{wordOf}
 use Rattle.text.specs.Limits.{mostBytes}
 use Rattle.text.specs.Order.{mayStand, stageAfter, atEnd}
@@ -24,7 +24,7 @@ use Rattle.text.specs.Read.{takeRecord, takePieces, takeLine, routine, t
 
 -- a number of the table that a text can have
 abbrev pub InTable : ℕ → Type 0
-InTable e = (2 ≤ e) × (e ≤ 10)
+InTable e = (2 ≤ e) × ((e ≤ 10) ⊎ (e ≡ 13))
 
 -- a refusal has a number of the table
 abbrev pub Numbered : Reading → Type 0
@@ -53,22 +53,31 @@ first-in (f ∷ fs) h = go (f .1) (first-in fs (h .1))
 
 record-stops : (s : State) (n : ℕ) (w : Word) (o : Option Record) → Stops (takeRecord s n w o)
 unfolding takeRecord
-record-stops s n w none = (omega arith, omega arith)
+record-stops s n w none = (omega arith, inl (omega arith))
 record-stops s n w (some r) =
     let fs : List Fault =
-    (6, not (mayStand w (s .stage))) ∷ (7, repeats s r) ∷ (8, readsUnknown s r) ∷ (9, exceeds s r)
+    (13, nests r) ∷ (6, not (mayStand w (s .stage))) ∷ (7, repeats s r) ∷ (8, readsUnknown s r) ∷ (9, exceeds s r)
     ∷ (10, miscounts s r) ∷ [] in
     unless-stops (firstOf fs) (atStage (stageAfter w (s .stage)) (added n r s))
     (first-in fs (
-      (omega arith, omega arith),
+      (omega arith, inr refl),
       (
-        (omega arith, omega arith),
+        low 6 (omega arith) (omega arith),
         (
-          (omega arith, omega arith),
-          ((omega arith, omega arith), ((omega arith, omega arith), tt)),
+          low 7 (omega arith) (omega arith),
+          (
+            low 8 (omega arith) (omega arith),
+            (
+              low 9 (omega arith) (omega arith),
+              (low 10 (omega arith) (omega arith), tt),
+            ),
+          ),
         ),
       ),
     ))
+  where
+    low : (e : ℕ) → 2 ≤ e → e ≤ 10 → InTable e
+    low e h k = (h, inl k)
 
 line-stops : (s : State) (n : ℕ) (l : List ℕ) → Stops (takeLine s n l)
 unfolding takeLine takePieces
@@ -76,7 +85,7 @@ line-stops s n l = go (all allowed l)
   where
     go : (b : Bool) → Stops (cond b (takePieces s n (pieces tab l)) (stop 3))
     go true = let w = wordOf (field 0 (pieces tab l)) in record-stops s n w (recordFor w (pieces tab l))
-    go false = (omega arith, omega arith)
+    go false = (omega arith, inl (omega arith))
 
 last-numbered : (s : State) (n : ℕ) (l : List ℕ) → Numbered (takeLast s n l)
 unfolding takeLast
@@ -84,16 +93,16 @@ last-numbered s n [] = go (eqb (s .stage) atEnd)
   where
     go : (b : Bool) → Numbered (cond b (accepted (routine s n)) (refused 6 (n + 1)))
     go true = tt
-    go false = (omega arith, omega arith)
+    go false = (omega arith, inl (omega arith))
 last-numbered s n (b ∷ l) = go (all allowed (b ∷ l))
   where
     go : (t : Bool) → Numbered (refused (cond t 4 3) (n + 1))
-    go true = (omega arith, omega arith)
-    go false = (omega arith, omega arith)
+    go true = (omega arith, inl (omega arith))
+    go false = (omega arith, inl (omega arith))
 
 lines-numbered : (s : State) (n : ℕ) (ls : List (List ℕ)) → Numbered (takeLines s n ls)
 unfolding takeLines follow
-lines-numbered s n [] = (omega arith, omega arith)
+lines-numbered s n [] = (omega arith, inl (omega arith))
 lines-numbered s n (l ∷ []) = last-numbered s n l
 lines-numbered s n (l ∷ m ∷ ls) =
     go (takeLine s (n + 1) l) (line-stops s (n + 1) l) (λ t. lines-numbered t (n + 1) (m ∷ ls))
@@ -109,5 +118,5 @@ unfolding readText
 read-numbered text = go (ltb mostBytes (length text))
   where
     go : (b : Bool) → Numbered (cond b (refused 2 0) (takeLines start 0 (pieces lineFeed text)))
-    go true = (omega arith, omega arith)
+    go true = (omega arith, inl (omega arith))
     go false = lines-numbered start 0 (pieces lineFeed text)

@@ -8,8 +8,8 @@ use mathlib.Core.Bool.{Bool, true, false, _||_}
 use lib.Dec.{eqb}
 use borrow.Author.Tests.{eqb-true}
 use Rattle.tokens.specs.declared.word.Word.{Word}
-use Rattle.tokens.specs.declared.word.Word.the-variants.{Shares, Map, Input, Origin, Set, Xor, Mul, App, Rand, Result}
-use Rattle.tokens.specs.declared.word.Word.the-variants.{Masked, Output, Unknown}
+use Rattle.tokens.specs.declared.word.Word.the-variants.{Shares, Map, Input, Origin, Set, Xor, Mul, App, Let, Rand}
+use Rattle.tokens.specs.declared.word.Word.the-variants.{Result, Masked, Output, Unknown}
 use Rattle.text.specs.Order.{mayStand, stageAfter, inMasked}
 
 either-le : (p q : Bool) {a b : ℕ} → (p ≡ true → a ≤ b) → (q ≡ true → a ≤ b) → p || q ≡ true → a ≤ b
@@ -34,6 +34,7 @@ stands-le Set stage h = two-le stage 3 5 5 (omega arith) (omega arith) h
 stands-le Xor stage h = two-le stage 3 5 5 (omega arith) (omega arith) h
 stands-le Mul stage h = two-le stage 3 5 5 (omega arith) (omega arith) h
 stands-le App stage h = two-le stage 3 5 5 (omega arith) (omega arith) h
+stands-le Let stage h = two-le stage 3 5 5 (omega arith) (omega arith) h
 stands-le Rand stage h = omega (arith, eqb-true stage 5 h)
 stands-le Result stage h = omega (arith, eqb-true stage 3 h)
 stands-le Masked stage h = omega (arith, eqb-true stage 4 h)
@@ -50,6 +51,7 @@ after-lt Set stage h k = k
 after-lt Xor stage h k = k
 after-lt Mul stage h k = k
 after-lt App stage h k = k
+after-lt Let stage h k = k
 after-lt Rand stage h k = k
 after-lt Result stage h k = omega (arith, eqb-true stage 3 h)
 after-lt Masked stage h k = omega (arith, eqb-true stage 4 h)

@@ -1,4 +1,5 @@
 -- The step of a statement: its faults, and what it adds, from what was found for its operands. Assumes nothing.
+use Rattle.grammar.specs.Record.{nests}
 use Prim.Native.Nat.{ℕ, _+_, _≤_}
 use native.Mathlib.Omega.{arith}
 use mathlib.Core.Path.{_≡_, refl, sym, _∙_, ap, subst}
@@ -53,7 +54,8 @@ unfolding stateIn
 block-named s t k a true = refl
 block-named s t k a false = refl
 
-block-names : (s t : List ℕ) (k : Known) (a : Arrays)
+-- the names of the block, as the code has them
+pub block-names : (s t : List ℕ) (k : Known) (a : Arrays)
     → namesIn s t (blockNames k) ≡ block (stateIn s (kept t k a)) .names
 unfolding block stateIn
 block-names s t k a = block-named s t k a (eqb (k .stage) inMasked)
@@ -76,7 +78,7 @@ module _ (s t : List ℕ) (k : Known) (K : Sound k) (n : ℕ) (stands : Bool) (x
 
     tests : (a : Arrays) → Sized (kept t k a)
         → Tested (stateIn s (kept t k a)) (assign (nameIn s x) (F .form)) g (r .unknown) m false
-    unfolding repeats readsUnknown exceeds miscounts stateIn
+    unfolding repeats readsUnknown exceeds miscounts stateIn nests
     tests a z =
         let here = b ∙ block-names s t k a in
         record {
@@ -85,6 +87,7 @@ module _ (s t : List ℕ) (k : Known) (K : Sound k) (n : ℕ) (stands : Bool) (x
           exceeds = mq ∙ (λ i. ltb mostStatements (sym (statements-length s (kept t k a) K z) i + 1)
               || ltb mostVariables (k .variables + F .drawn i));
           miscounts = refl;
+          shallow = refl;
         }
 
     -- the statement has a fault
@@ -98,7 +101,7 @@ module _ (s t : List ℕ) (k : Known) (K : Sound k) (n : ℕ) (stands : Bool) (x
     step = stepOf 0 (stated k (r .drawn)) (Stated x (record { op = r .op; line = n }))
 
     grown : (a : Arrays) → Sized (kept t k a) → StatementFits k (r .drawn) → k .stage ≤ inMasked
-        → stateIn s (after (kept t k a) step) ≡ added n (assign (nameIn s x) (F .form)) (stateIn s (kept t k a))
+        → stateIn s (after s (kept t k a) step) ≡ added n (assign (nameIn s x) (F .form)) (stateIn s (kept t k a))
     unfolding added stateIn step
     grown a z fit low =
         let here = b ∙ block-names s t k a in
@@ -118,5 +121,5 @@ module _ (s t : List ℕ) (k : Known) (K : Sound k) (n : ℕ) (stands : Bool) (x
         subst (Took s t k n stands (assignIn s (nameIn s x) f)) (sym e)
         (took-grown s t k K n stands (assign (nameIn s x) (F .form)) (assign-read s (nameIn s x) f (F .here))
         step (sym z ∙ w) (stated-stage k (r .drawn) (eqb (k .stage) inMasked))
-        (stated-sound k K (r .drawn) fit low (eqb (k .stage) inMasked) refl) (fit .0) tests
+        (stated-sound k K (r .drawn) fit low (eqb (k .stage) inMasked) refl) (fit .0) tt tests
         (λ a y. grown a y fit low))

@@ -11,7 +11,7 @@ use Rattle.text.specs.declared.types.Statement.{Statement}
 use Rattle.text.specs.declared.types.AffineMap.{AffineMap}
 use Rattle.text.specs.declared.known.Known.{Known}
 use Rattle.text.specs.declared.step.Put.{Put}
-use Rattle.text.specs.declared.step.Put.the-variants.{Nothing, Map, Input, Stated}
+use Rattle.text.specs.declared.step.Put.the-variants.{Nothing, Map, Input, Stated, Let}
 use Rattle.text.specs.declared.step.Step.{Step}
 use Rattle.text.specs.declared.routine.Routine.{Routine}
 use Rattle.text.specs.State.{start}
@@ -19,19 +19,29 @@ use Rattle.text.specs.Names.{listed, namesIn}
 use Rattle.text.specs.Routine.{nothing}
 use Rattle.text.specs.Limits.{mostMaps, mostStatements, mostNumbers}
 use Rattle.text.specs.Known.{Arrays, arrays, Kept, kept, Sized, Fits, statementSlot, mapSlot, statementAfter}
-use Rattle.text.specs.Known.{mapAfter, tableAfter, arraysAfter, after, stateIn, blank}
+use Rattle.text.specs.Known.{mapAfter, tableAfter, arraysAfter, letStatements, after, stateIn, blank}
+use Rattle.text.specs.Lets.{setAll}
+use Rattle.text.proofs.Laws.Lets.{all-length}
 use Rattle.text.proofs.Laws.Kept.{table-length}
 
 -- a place with room is the next
 slot : (n m : ℕ) → n < m → cond (ltb n m) n 0 ≡ n
 slot n m h = ap (λ (b : Bool). cond b n 0) (lt-ltb n m h)
 
-module _ (a : Arrays) (k : Known) (g : AffineMap) (i j : ℕ) (d : Statement) (e : AffineMap) where
-  -- the arrays behind the two stores
+-- the statements with those of a `let`, if it is one
+abbrev pub letAfter : List ℕ → List ℕ → Known → Put → List Statement → List Statement
+letAfter s t k Nothing ss = ss
+letAfter s t k (Map x) ss = ss
+letAfter s t k (Input x) ss = ss
+letAfter s t k (Stated x st) ss = ss
+letAfter s t k (Let x f) ss = setAll ss (k .origin + k .masked) (letStatements s t k f)
+
+module _ (s t : List ℕ) (a : Arrays) (k : Known) (g : AffineMap) (i j : ℕ) (d : Statement) (e : AffineMap) where
+  -- the arrays behind the stores
   stored : Put → Arrays
   stored p =
       arrays (set (a .maps) j (mapAfter p g (getD (a .maps) j e)))
-      (set (a .statements) i (statementAfter p (getD (a .statements) i d)))
+      (letAfter s t k p (set (a .statements) i (statementAfter p (getD (a .statements) i d))))
 
   same-maps : set (a .maps) j (getD (a .maps) j e) ≡ a .maps
   same-maps = set-getD (a .maps) j e
@@ -40,7 +50,7 @@ module _ (a : Arrays) (k : Known) (g : AffineMap) (i j : ℕ) (d : Statement) (e
   same-statements = set-getD (a .statements) i d
 
   -- they are those that the record leads to
-  stores : (p : Put) → Fits k p → i ≡ statementSlot k → j ≡ mapSlot k → stored p ≡ arraysAfter a k p g
+  stores : (p : Put) → Fits k p → i ≡ statementSlot k → j ≡ mapSlot k → stored p ≡ arraysAfter s t a k p g
   unfolding stored
   stores Nothing f u v = λ n. arrays (same-maps n) (same-statements n)
   stores (Map x) f u v =
@@ -50,37 +60,44 @@ module _ (a : Arrays) (k : Known) (g : AffineMap) (i j : ℕ) (d : Statement) (e
   stores (Stated x st) f u v =
       let at = u ∙ slot (k .origin + k .masked) mostStatements f in
       λ n. arrays (same-maps n) (set (a .statements) (at n) st)
+  stores (Let x l) f u v = λ n. arrays (same-maps n)
+      (setAll (same-statements n) (k .origin + k .masked) (letStatements s t k l))
 
-module _ (h : Kept) (r : Step) where
+module _ (s : List ℕ) (h : Kept) (r : Step) where
   -- the loop's stores lead to what the step says
   pub kept-after : Fits (h .known) (r .put) → (i j : ℕ) (d : Statement) (e : AffineMap) {t : List ℕ} {st : Statement}
-      {f : AffineMap} → i ≡ statementSlot (h .known) → j ≡ mapSlot (h .known)
+      {f : AffineMap} {ss : List Statement} → i ≡ statementSlot (h .known) → j ≡ mapSlot (h .known)
       → st ≡ statementAfter (r .put) (getD (h .arrays .statements) i d)
       → f ≡ mapAfter (r .put) (r .map) (getD (h .arrays .maps) j e)
       → t ≡ tableAfter (h .names) (h .known) (r .put)
-      → kept t (r .known) (arrays (set (h .arrays .maps) j f) (set (h .arrays .statements) i st)) ≡ after h r
+      → ss ≡ letAfter s (h .names) (h .known) (r .put) (set (h .arrays .statements) i st)
+      → kept t (r .known) (arrays (set (h .arrays .maps) j f) ss) ≡ after s h r
   unfolding after stored
-  kept-after F i j d e u v p q w =
+  kept-after F i j d e u v p q w m =
       (λ n. kept (w n) (r .known)
-      (arrays (set (h .arrays .maps) j (q n)) (set (h .arrays .statements) i (p n))))
+      (arrays (set (h .arrays .maps) j (q n))
+      ((m ∙ ap (λ (y : Statement). letAfter s (h .names) (h .known) (r .put) (set (h .arrays .statements) i y)) p) n)))
       ∙ ap (kept (tableAfter (h .names) (h .known) (r .put)) (r .known))
-      (stores (h .arrays) (h .known) (r .map) i j d e (r .put) F u v)
+      (stores s (h .names) (h .arrays) (h .known) (r .map) i j d e (r .put) F u v)
 
-  maps-size : (p : Put) → length (arraysAfter (h .arrays) (h .known) p (r .map) .maps) ≡ length (h .arrays .maps)
+  maps-size : (p : Put) → length (arraysAfter s (h .names) (h .arrays) (h .known) p (r .map) .maps) ≡ length (h .arrays .maps)
   maps-size Nothing = refl
   maps-size (Map x) = length-set (h .arrays .maps) (h .known .mapped) (r .map)
   maps-size (Input x) = refl
   maps-size (Stated x st) = refl
+  maps-size (Let x f) = refl
 
   statements-size : (p : Put)
-      → length (arraysAfter (h .arrays) (h .known) p (r .map) .statements) ≡ length (h .arrays .statements)
+      → length (arraysAfter s (h .names) (h .arrays) (h .known) p (r .map) .statements) ≡ length (h .arrays .statements)
   statements-size Nothing = refl
   statements-size (Map x) = refl
   statements-size (Input x) = refl
   statements-size (Stated x st) = length-set (h .arrays .statements) (h .known .origin + h .known .masked) st
+  statements-size (Let x f) =
+      all-length (h .arrays .statements) (h .known .origin + h .known .masked) (letStatements s (h .names) (h .known) f)
 
   -- the sizes stay
-  pub sized-after : Sized h → Sized (after h r)
+  pub sized-after : Sized h → Sized (after s h r)
   unfolding after
   sized-after Z =
       record {

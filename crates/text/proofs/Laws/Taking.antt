@@ -14,13 +14,13 @@ use Rattle.text.specs.declared.step.Step.{Step}
 use Rattle.grammar.specs.declared.record.FormRead.{FormRead}
 use Rattle.text.specs.declared.scope.FormFound.{FormFound}
 use Rattle.tokens.specs.Token.{_>>=_, Name}
-use Rattle.grammar.specs.Record.{Record, assign, Form}
+use Rattle.grammar.specs.Record.{Record, assign, Form, nests}
 use Rattle.text.specs.State.{State}
 use Rattle.text.specs.Scope.{repeats, readsUnknown, exceeds, miscounts, added, statementCount, unknownForm, opIn}
 use Rattle.text.specs.Scope.{drawn}
 use Rattle.text.specs.Read.{unless}
 use Rattle.grammar.specs.Recorded.{formAt, assignIn}
-use Rattle.text.specs.Known.{Arrays, Kept, kept, stateIn, Sound, Sized, Fits, after}
+use Rattle.text.specs.Known.{Arrays, Kept, kept, stateIn, Sound, Sized, Fits, LetsRead, after}
 use Rattle.text.specs.Found.{formTold, toldIn, Told}
 use Rattle.text.specs.Taken.{firstFault, faultOf, takes, stepOf, outcomeIn, Took}
 use Rattle.text.proofs.Laws.Keeping.{no-fault}
@@ -45,12 +45,13 @@ pub record Tested (st : State) (r : Record) (a b c d : Bool) : Type 0 where
   pub unknown : b ≡ readsUnknown st r
   pub exceeds : c ≡ exceeds st r
   pub miscounts : d ≡ miscounts st r
+  pub shallow : nests r ≡ false
 
 fault-told : (st : State) (stands : Bool) (r : Record) {e : ℕ} {a b c d : Bool} → e ≡ firstFault stands a b c d
     → Tested st r a b c d → e ≡ faultOf st stands r
 unfolding faultOf
 fault-told st stands r q T =
-    q ∙ (λ i. firstFault stands (T .repeats i) (T .unknown i) (T .exceeds i) (T .miscounts i))
+    q ∙ (λ i. firstFault stands (T .repeats i) (T .unknown i) (T .exceeds i) (T .miscounts i)) ∙ rw (T .shallow)
 
 -- ---- steps
 
@@ -68,12 +69,35 @@ module _ (s t : List ℕ) (k : Known) (K : Sound k) (n : ℕ) (stands : Bool) {o
         stage = refl;
         sound = K;
         fits = tt;
+        lets = tt;
         stood = λ z. absurd (omega arith);
       }
 
   -- a field is not of its form
   pub took-bad : none ≡ o → {r : Step} → r ≡ stepOf 5 k Nothing → Took s t k n stands o r
   took-bad e q = subst (Took s t k n stands o) (sym q) (bad e)
+
+  module _ (q : Record) (here : some q ≡ o) where
+    deep : nests q ≡ true → Took s t k n stands o (stepOf 13 k Nothing)
+    unfolding outcomeIn takes stepOf after faultOf
+    deep d =
+        record {
+          outcome = λ x y.
+              let st = stateIn s (kept t k x) in
+              let told : 13 ≡ faultOf st stands q = sym (simp d) in
+              unless-any 13 st (added n q st) (λ z. omega arith)
+              ∙ ap (λ (g : ℕ). unless g (added n q st)) told
+              ∙ ap (takes st n stands) here;
+          stage = refl;
+          sound = K;
+          fits = tt;
+          lets = tt;
+          stood = λ y. absurd (omega arith);
+        }
+
+    -- the record nests too deep
+    pub took-deep : nests q ≡ true → {r : Step} → r ≡ stepOf 13 k Nothing → Took s t k n stands o r
+    took-deep d p = subst (Took s t k n stands o) (sym p) (deep d)
 
   module _ (q : Record) (here : some q ≡ o) {a b c d : Bool} where
     fault : {e : ℕ} → e ≡ firstFault stands a b c d → (e ≡ 0 → ⊥)
@@ -90,6 +114,7 @@ module _ (s t : List ℕ) (k : Known) (K : Sound k) (n : ℕ) (stands : Bool) {o
           stage = refl;
           sound = K;
           fits = tt;
+          lets = tt;
           stood = λ y. absurd (z y);
         }
 
@@ -102,11 +127,12 @@ module _ (s t : List ℕ) (k : Known) (K : Sound k) (n : ℕ) (stands : Bool) {o
     -- what the record adds is in the step, and its refusal tells whether it stands
     pub took-grown : (r : Step) → r .refusal ≡ firstFault stands a b c d
         → r .known .stage ≡ k .stage → Sound (r .known) → Fits k (r .put)
+        → LetsRead s t k (r .put)
         → ((x : Arrays) → Sized (kept t k x) → Tested (stateIn s (kept t k x)) q a b c d)
-        → ((x : Arrays) → Sized (kept t k x) → stateIn s (after (kept t k x) r) ≡ added n q (stateIn s (kept t k x)))
+        → ((x : Arrays) → Sized (kept t k x) → stateIn s (after s (kept t k x) r) ≡ added n q (stateIn s (kept t k x)))
         → Took s t k n stands o r
     unfolding outcomeIn takes
-    took-grown r f g R F T M =
+    took-grown r f g R F W T M =
         record {
           outcome = λ x y.
               let st = stateIn s (kept t k x) in
@@ -114,6 +140,7 @@ module _ (s t : List ℕ) (k : Known) (K : Sound k) (n : ℕ) (stands : Bool) {o
           stage = g;
           sound = R;
           fits = F;
+          lets = W;
           stood = λ z. no-faults stands a b c d f z .0;
         }
 
@@ -125,7 +152,7 @@ module _ (s t : List ℕ) (k : Known) (K : Sound k) (n : ℕ) (stands : Bool) {o
         → {r : Step} → r ≡ stepOf e j Nothing → Took s t k n stands o r
     unfolding stepOf after
     took-set {e = e} f j g R T M p =
-        subst (Took s t k n stands o) (sym p) (took-grown (stepOf e j Nothing) f g R tt T (λ x y. M x))
+        subst (Took s t k n stands o) (sym p) (took-grown (stepOf e j Nothing) f g R tt tt T (λ x y. M x))
 
 -- ---- counts
 

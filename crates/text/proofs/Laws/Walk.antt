@@ -46,17 +46,17 @@ module _ (s : List ℕ) (h : Kept) (c : Cursor) {x : Reading}
         let L = look-line s c l n a in
         ap (λ (m : Cursor). refused (r .refusal) (m .line)) (L .2)
         ∙ line-stops (stateIn s h) (c .line) s (c .at) (lineEnd s (c .at)) (end-at s (c .at)) i (r .refusal) (L .0)
-        (sym here ∙ stop-at (r .refusal) (stateIn s (after h r)) z)
+        (sym here ∙ stop-at (r .refusal) (stateIn s (after s h r)) z)
 
     -- a line is taken, and q is held behind it
-    pub line-taken : r .refusal ≡ 0 → {q : Kept} → q ≡ after h r
+    pub line-taken : r .refusal ≡ 0 → {q : Kept} → q ≡ after s h r
         → x ≡ takeLines (stateIn s q) (n .line) (pieces lineFeed (drop (n .at) s))
     unfolding outcomeIn unless
     line-taken z e =
         let L = look-line s c l n a in
-        line-goes (stateIn s h) (c .line) s (c .at) (lineEnd s (c .at)) (end-at s (c .at)) i (stateIn s (after h r))
+        line-goes (stateIn s h) (c .line) s (c .at) (lineEnd s (c .at)) (end-at s (c .at)) i (stateIn s (after s h r))
         (L .0)
-        (sym here ∙ ap (λ (e : ℕ). unless e (stateIn s (after h r))) z)
+        (sym here ∙ ap (λ (e : ℕ). unless e (stateIn s (after s h r))) z)
         ∙ (λ j. takeLines (stateIn s (sym e j)) (sym (L .2) j .line) (pieces lineFeed (drop (sym (L .2) j .at) s)))
 
   -- the last line lacks its line feed

@@ -78,29 +78,35 @@ app-record-requires c κs = search needs
 enum-told-9 : tie.Need-enum-told-9
 enum-told-9 c = search needs
 
-only-name-requires : tie.Need-only-name-requires
-only-name-requires c κs = search needs
+let-record-requires : tie.Need-let-record-requires
+let-record-requires c κs = search needs
 
 enum-told-10 : tie.Need-enum-told-10
 enum-told-10 c = search needs
 
-only-name-requires-2 : tie.Need-only-name-requires-2
-only-name-requires-2 c κs = search needs
+only-name-requires : tie.Need-only-name-requires
+only-name-requires c κs = search needs
 
 enum-told-11 : tie.Need-enum-told-11
 enum-told-11 c = search needs
 
-mark-record-requires-2 : tie.Need-mark-record-requires-2
-mark-record-requires-2 c κs = search needs
+only-name-requires-2 : tie.Need-only-name-requires-2
+only-name-requires-2 c κs = search needs
 
 enum-told-12 : tie.Need-enum-told-12
 enum-told-12 c = search needs
 
-output-record-requires : tie.Need-output-record-requires
-output-record-requires c κs = search needs
+mark-record-requires-2 : tie.Need-mark-record-requires-2
+mark-record-requires-2 c κs = search needs
 
 enum-told-13 : tie.Need-enum-told-13
 enum-told-13 c = search needs
+
+output-record-requires : tie.Need-output-record-requires
+output-record-requires c κs = search needs
+
+enum-told-14 : tie.Need-enum-told-14
+enum-told-14 c = search needs
 
 returns : tie.Need-returns
 returns c = known _ (c .before .enum-told .given .1) (c .shares-record .ensures)
@@ -130,27 +136,30 @@ returns-8 : tie.Need-returns-8
 returns-8 c = known _ (c .before .enum-told8 .given .1) (c .app-record .ensures)
 
 returns-9 : tie.Need-returns-9
-unfolding recordIn recordFor
-returns-9 c =
-    known _ (c .before .enum-told9 .given .1)
-    (only _ _ (c .only-name .result) (λ x. some (assign x rand)) (c .only-name .ensures))
+returns-9 c = known _ (c .before .enum-told9 .given .1) (c .let-record .ensures)
 
 returns-10 : tie.Need-returns-10
 unfolding recordIn recordFor
 returns-10 c =
     known _ (c .before .enum-told10 .given .1)
-    (only _ _ (c .only-name2 .result) (λ x. some (result x)) (c .only-name2 .ensures))
+    (only _ _ (c .only-name .result) (λ x. some (assign x rand)) (c .only-name .ensures))
 
 returns-11 : tie.Need-returns-11
 unfolding recordIn recordFor
-returns-11 c = known _ (c .before .enum-told11 .given .1) (c .mark-record2 .ensures)
+returns-11 c =
+    known _ (c .before .enum-told11 .given .1)
+    (only _ _ (c .only-name2 .result) (λ x. some (result x)) (c .only-name2 .ensures))
 
 returns-12 : tie.Need-returns-12
-returns-12 c = known _ (c .before .enum-told12 .given .1) (c .output-record .ensures)
+unfolding recordIn recordFor
+returns-12 c = known _ (c .before .enum-told12 .given .1) (c .mark-record2 .ensures)
 
 returns-13 : tie.Need-returns-13
+returns-13 c = known _ (c .before .enum-told13 .given .1) (c .output-record .ensures)
+
+returns-14 : tie.Need-returns-14
 unfolding recordIn recordFor
-returns-13 c = known _ (c .enum-told13 .given .1) refl
+returns-14 c = known _ (c .enum-told14 .given .1) refl
 
 pub record-spec : {M : Type 1} → statement M
 record-spec =
@@ -173,14 +182,16 @@ record-spec =
     enum-told-8
     app-record-requires
     enum-told-9
-    only-name-requires
+    let-record-requires
     enum-told-10
-    only-name-requires-2
+    only-name-requires
     enum-told-11
-    mark-record-requires-2
+    only-name-requires-2
     enum-told-12
-    output-record-requires
+    mark-record-requires-2
     enum-told-13
+    output-record-requires
+    enum-told-14
     returns
     returns-2
     returns-3
@@ -193,4 +204,5 @@ record-spec =
     returns-10
     returns-11
     returns-12
-    returns-13)
+    returns-13
+    returns-14)

@@ -1,6 +1,6 @@
 -- The columns are there, or they are not. Assumes nothing.
 use mathlib.Core.Path.{ap, _∙_}
-use Rattle.reader.specs.Handed.{isSome}
+use Rattle.tokens.specs.Token.{isSome}
 use Rattle.reader.proofs.Laws.Handed.{told-some}
 use borrow.Author.Needs.{needs}
 use Rattle.reader.proofs.formed.has_columns.Statement.{statement}

@@ -61,6 +61,18 @@ enum-known-r-5 c = search needs
 has-name-requires-4 : tie.Need-has-name-requires-4
 has-name-requires-4 c κs = search needs
 
+has-formula-requires : tie.Need-has-formula-requires
+has-formula-requires c κs = search needs
+
+both-requires-4 : tie.Need-both-requires-4
+both-requires-4 c κs = search needs
+
+enum-known-r-6 : tie.Need-enum-known-r-6
+enum-known-r-6 c = search needs
+
+has-name-requires-5 : tie.Need-has-name-requires-5
+has-name-requires-5 c κs = search needs
+
 enum-told-3 : tie.Need-enum-told-3
 enum-told-3 c = search needs
 
@@ -98,13 +110,19 @@ returns-6 c =
     ∙ ap (hasFields (piecesIn (d .args .s .now) (d .args .l))) (sym (c .before .before .before .before .r4 .given .1))
 
 returns-7 : tie.Need-returns-7
-returns-7 c = search needs
+returns-7 c =
+    let d = c .before .before .before .before .before .before .before in
+    c .both4 .ensures ∙ (λ i. c .before .before .has-name4 .ensures i && c .before .has-formula .ensures i)
+    ∙ ap (hasFields (piecesIn (d .args .s .now) (d .args .l))) (sym (c .before .before .before .before .r5 .given .1))
 
 returns-8 : tie.Need-returns-8
 returns-8 c = search needs
 
 returns-9 : tie.Need-returns-9
-returns-9 c =
+returns-9 c = search needs
+
+returns-10 : tie.Need-returns-10
+returns-10 c =
     let d = c .before .before .before .before in
     c .has-outputs .ensures
     ∙ ap (hasFields (piecesIn (d .args .s .now) (d .args .l))) (sym (c .before .enum-told4 .given .1))
@@ -131,6 +149,10 @@ has-fields-spec =
     both-requires-3
     enum-known-r-5
     has-name-requires-4
+    has-formula-requires
+    both-requires-4
+    enum-known-r-6
+    has-name-requires-5
     enum-told-3
     enum-told-4
     has-outputs-requires
@@ -142,4 +164,5 @@ has-fields-spec =
     returns-6
     returns-7
     returns-8
-    returns-9)
+    returns-9
+    returns-10)

@@ -6,7 +6,7 @@ use Rattle.tokens.specs.Ascii.{all, allowed}
 use Rattle.grammar.specs.Line.{fieldIn}
 use Rattle.tokens.specs.Word.{wordOf}
 use Rattle.reader.specs.Reader.{bytesOf}
-use Rattle.reader.proofs.Laws.Handed.{line-foul, line-record, line-unformed}
+use Rattle.reader.proofs.Laws.Handed.{line-foul, line-record, line-deep, line-unformed}
 use borrow.Author.Needs.{needs}
 use Rattle.reader.proofs.handed.hand_line.Statement.{statement}
 use Rattle.reader.proofs.handed.hand_line.Tie as tie
@@ -51,16 +51,26 @@ told c =
 
 returns : tie.Need-returns
 returns c =
-    line-record _ _ _ (clean (c .before)) _ (told (c .before)) _ (c .before .before .«record» .ensures)
-    (sym (c .if2 .taken) ∙ c .before .has-fields .ensures)
+    let d = c .before .before .before in
+    ap some (line-deep _ _ _ (clean d) _ (told d) _ (d .before .«record» .ensures)
+    (sym (c .before .before .if2 .taken) ∙ d .has-fields .ensures) (sym (c .if3 .taken) ∙ c .before .nests .ensures))
+
+nests-requires : tie.Need-nests-requires
+nests-requires c κs = search needs
 
 returns-2 : tie.Need-returns-2
 returns-2 c =
-    ap some (line-unformed _ _ _ (clean (c .before)) _ (told (c .before)) _ (c .before .before .«record» .ensures)
-    (sym (c .if2 .left) ∙ c .before .has-fields .ensures))
+    let d = c .before .before .before in
+    line-record _ _ _ (clean d) _ (told d) _ (d .before .«record» .ensures)
+    (sym (c .before .before .if2 .taken) ∙ d .has-fields .ensures) (sym (c .if3 .left) ∙ c .before .nests .ensures)
 
 returns-3 : tie.Need-returns-3
 returns-3 c =
+    ap some (line-unformed _ _ _ (clean (c .before)) _ (told (c .before)) _ (c .before .before .«record» .ensures)
+    (sym (c .if2 .left) ∙ c .before .has-fields .ensures))
+
+returns-4 : tie.Need-returns-4
+returns-4 c =
     ap some (line-foul _ _ _
     (sym (c .before .all-allowed .ensures ∙ ap (all allowed) (c .before .before .part .ensures)) ∙ c .if1 .left))
 
@@ -75,6 +85,8 @@ hand-line-spec =
     word-of-requires
     record-requires
     has-fields-requires
+    nests-requires
     returns
     returns-2
-    returns-3)
+    returns-3
+    returns-4)

@@ -1,4 +1,5 @@
 -- The faults of a map, or one map more. Assumes nothing.
+use Rattle.grammar.specs.Record.{nests}
 use mathlib.Core.Option.{none, some}
 use borrow.Author.Tests.{ltb-false}
 use lib.Dec.{ltb}
@@ -34,7 +35,7 @@ make-requires : tie.Need-make-requires
 make-requires c κs = search needs
 
 returns : tie.Need-returns
-unfolding repeats readsUnknown exceeds miscounts stateIn
+unfolding repeats readsUnknown exceeds miscounts stateIn nests
 returns c = λ n.
     let d = c .before .before .before .before .before .before .before .before in
     let k = d .args .k in
@@ -51,13 +52,14 @@ returns c = λ n.
       unknown = refl;
       exceeds = ap (λ (i : ℕ). ltb mostMaps (i + 1)) (sym (maps-length s (kept t k y) (d .pre .1) z));
       miscounts = refl;
+      shallow = refl;
     }) (c .make .ensures)
 
 add-next : tie.Need-add-next
 add-next c = search needs
 
 returns-2 : tie.Need-returns-2
-unfolding repeats readsUnknown exceeds miscounts added stateIn
+unfolding repeats readsUnknown exceeds miscounts added stateIn nests
 returns-2 c = λ n.
     let b2 = c .before .before in
     let b3 = c .before .before .before in
@@ -75,12 +77,13 @@ returns-2 c = λ n.
     took-grown s t k K n (d .args .stands) (map x (d .args .constant) (R .result .bytes))
     (ap (mapIn x (d .args .constant)) here) _ (sym (b2 .if2 .left) ∙ b3 .first-fault .ensures) refl
     (steady k K (k .stage) (k .shares) (k .mapped + 1) (k .result) (k .outputs) (k .named) (K .shares)
-    (omega (arith, few)) (K .named) (K .apart)) few
+    (omega (arith, few)) (K .named) (K .apart)) few tt
     (λ y z. record {
       repeats = c .before .before .before .before .before .is-given .ensures;
       unknown = refl;
       exceeds = ap (λ (i : ℕ). ltb mostMaps (i + 1)) (sym (maps-length s (kept t k y) K z));
       miscounts = refl;
+      shallow = refl;
     })
     (λ y z. map-means s (kept t k y) K z (d .args .x) _ _ few refl)
 

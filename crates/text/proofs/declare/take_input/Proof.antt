@@ -1,4 +1,5 @@
 -- The faults of an input, or one input more. Assumes nothing.
+use Rattle.grammar.specs.Record.{nests}
 use borrow.Author.Tests.{ltb-false}
 use lib.Dec.{ltb}
 use Rattle.grammar.specs.Line.{nameIn}
@@ -57,7 +58,7 @@ make-requires : tie.Need-make-requires
 make-requires c κs = search needs
 
 returns : tie.Need-returns
-unfolding recordIn repeats readsUnknown exceeds miscounts stateIn
+unfolding recordIn repeats readsUnknown exceeds miscounts stateIn nests
 returns c = λ ps n.
     let d = c .before .before .before .before .before .before .before .before .before .before .before in
     let s = d .args .s .now in
@@ -70,6 +71,7 @@ returns c = λ ps n.
       unknown = refl;
       exceeds = c .before .before .before .one-of .ensures;
       miscounts = refl;
+      shallow = refl;
     }) (c .make .ensures)
 
 with-input-requires : tie.Need-with-input-requires
@@ -87,7 +89,7 @@ make-requires-3 : tie.Need-make-requires-3
 make-requires-3 c κs = search needs
 
 returns-2 : tie.Need-returns-2
-unfolding recordIn repeats readsUnknown exceeds miscounts added stateIn stepOf
+unfolding recordIn repeats readsUnknown exceeds miscounts added stateIn stepOf nests
 returns-2 c = λ ps n.
     let b2 = c .before .before in
     let b3 = c .before .before .before in
@@ -104,12 +106,13 @@ returns-2 c = λ ps n.
     (took-grown s t k (d .pre) n (d .args .stands) (input (nameIn s m))
     (ap (λ (y : NameRead). recordIn s ps (rec.Input y)) (sym (x .given .1)))
     (stepOf 0 (inputAdded k) (Input m)) (sym (b2 .if1 .left) ∙ b3 .first-fault .ensures) refl
-    (input-sound k (d .pre) fit) fit
+    (input-sound k (d .pre) fit) fit tt
     (λ y z. record {
       repeats = c .before .before .before .before .before .before .before .is-given .ensures;
       unknown = refl;
       exceeds = c .before .before .before .before .one-of .ensures;
       miscounts = refl;
+      shallow = refl;
     })
     (λ y z. input-means s (kept t k y) (d .pre) z m fit))
 

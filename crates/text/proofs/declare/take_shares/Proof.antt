@@ -1,4 +1,5 @@
 -- The number is set, and `unless` forgets it where the record may not stand. Assumes nothing.
+use Rattle.grammar.specs.Record.{nests}
 use Rattle.grammar.specs.declared.record.Rec.the-variants as rec
 use Rattle.tokens.specs.declared.token.Number.{Number}
 use Rattle.grammar.specs.Record.{shares}
@@ -33,7 +34,7 @@ make-requires-2 : tie.Need-make-requires-2
 make-requires-2 c κs = search needs
 
 returns : tie.Need-returns
-unfolding recordIn repeats readsUnknown exceeds miscounts added withShares stateIn
+unfolding recordIn repeats readsUnknown exceeds miscounts added withShares stateIn nests
 returns c = λ s t ps n.
     let d = c .before .before .before .before .before in
     let k = d .args .k in
@@ -44,7 +45,7 @@ returns c = λ s t ps n.
     (ap (λ (x : Number). recordIn s ps (rec.Shares x)) (sym (c .before .before .before .count .given .1)))
     (c .before .first-fault .ensures) _ refl
     (steady k K (k .stage) v (k .mapped) (k .result) (k .outputs) (k .named) few (K .mapped) (K .named) (K .apart))
-    (λ x z. record { repeats = refl; unknown = refl; exceeds = refl; miscounts = refl })
+    (λ x z. record { repeats = refl; unknown = refl; exceeds = refl; miscounts = refl; shallow = refl })
     (λ x. refl) (c .make .ensures)
 
 returns-2 : tie.Need-returns-2

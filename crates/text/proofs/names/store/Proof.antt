@@ -4,7 +4,9 @@ use Rattle.text.specs.Known.{Fits, tableAfter, InputFits}
 use Rattle.text.specs.Names.{put, putShares}
 use Rattle.text.specs.Limits.{mostStatements, maskedFrom}
 use Rattle.text.specs.Order.{inMasked}
+use Rattle.text.specs.Lets.{putLet, LetFits}
 use Rattle.text.proofs.Laws.Known.{slot-lt}
+use Rattle.text.proofs.Laws.LetBlock.{let-slot}
 use Prim.Native.Nat.{ℕ, _+_, _<_}
 use native.Mathlib.Omega.{arith}
 use lib.Dec.{eqb}
@@ -57,6 +59,20 @@ put-requires-3 c κs =
     let f : k .origin + k .masked < mostStatements = subst (λ (q : Put). Fits k q) p (d .pre .1) in
     omega (arith, c .before .name-slot .ensures, slot-lt k (d .pre .0) f (eqb (k .stage) inMasked))
 
+enum-known-p-4 : tie.Need-enum-known-p-4
+enum-known-p-4 c = search needs
+
+name-slot-requires-2 : tie.Need-name-slot-requires-2
+name-slot-requires-2 c κs = search needs
+
+put-let-requires : tie.Need-put-let-requires
+put-let-requires c κs =
+    let d = c .before .before .before .before .before in
+    let k = d .args .k in
+    let p = c .before .before .before .p4 .given in
+    let f : LetFits k (p .0 .1 .0 .count) = subst (λ (q : Put). Fits k q) (p .1) (d .pre .1) in
+    (f .0, omega (arith, c .before .name-slot2 .ensures, let-slot k (d .pre .0) _ f (eqb (k .stage) inMasked)))
+
 returns : tie.Need-returns
 returns c =
     let d = c .before .before in
@@ -86,6 +102,15 @@ returns-4 c =
     ∙ ap (λ (at : ℕ). put (d .args .t .now) at (p .0 .0)) (c .before .before .name-slot .ensures)
     ∙ ap (tableAfter (d .args .t .now) k) (sym (p .1))
 
+returns-5 : tie.Need-returns-5
+returns-5 c =
+    let d = c .before .before .before .before .before .before in
+    let k = d .args .k in
+    let p = c .before .before .before .before .p4 .given in
+    c .put-let .ensures
+    ∙ ap (λ (at : ℕ). putLet (d .args .t .now) at (p .0 .0) (p .0 .1 .0 .count)) (c .before .before .name-slot2 .ensures)
+    ∙ ap (tableAfter (d .args .t .now) k) (sym (p .1))
+
 pub store-spec : {M : Type 1} → statement M
 store-spec =
     tie.close
@@ -101,7 +126,11 @@ store-spec =
     enum-known-p-3
     name-slot-requires
     put-requires-3
+    enum-known-p-4
+    name-slot-requires-2
+    put-let-requires
     returns
     returns-2
     returns-3
-    returns-4)
+    returns-4
+    returns-5)

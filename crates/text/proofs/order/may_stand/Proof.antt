@@ -55,6 +55,9 @@ either-requires-6 c κs = search needs
 enum-told-9 : tie.Need-enum-told-9
 enum-told-9 c = search needs
 
+either-requires-7 : tie.Need-either-requires-7
+either-requires-7 c κs = search needs
+
 enum-told-10 : tie.Need-enum-told-10
 enum-told-10 c = search needs
 
@@ -66,6 +69,9 @@ enum-told-12 c = search needs
 
 enum-told-13 : tie.Need-enum-told-13
 enum-told-13 c = search needs
+
+enum-told-14 : tie.Need-enum-told-14
+enum-told-14 c = search needs
 
 returns : tie.Need-returns
 returns c = by _ (c .enum-told .given .1)
@@ -92,7 +98,7 @@ returns-8 : tie.Need-returns-8
 returns-8 c = c .either6 .ensures ∙ by _ (c .before .enum-told8 .given .1)
 
 returns-9 : tie.Need-returns-9
-returns-9 c = by _ (c .enum-told9 .given .1)
+returns-9 c = c .either7 .ensures ∙ by _ (c .before .enum-told9 .given .1)
 
 returns-10 : tie.Need-returns-10
 returns-10 c = by _ (c .enum-told10 .given .1)
@@ -104,7 +110,10 @@ returns-12 : tie.Need-returns-12
 returns-12 c = by _ (c .enum-told12 .given .1)
 
 returns-13 : tie.Need-returns-13
-returns-13 c = search needs
+returns-13 c = by _ (c .enum-told13 .given .1)
+
+returns-14 : tie.Need-returns-14
+returns-14 c = search needs
 
 pub may-stand-spec : {M : Type 1} → statement M
 may-stand-spec =
@@ -125,10 +134,12 @@ may-stand-spec =
     enum-told-8
     either-requires-6
     enum-told-9
+    either-requires-7
     enum-told-10
     enum-told-11
     enum-told-12
     enum-told-13
+    enum-told-14
     returns
     returns-2
     returns-3
@@ -141,4 +152,5 @@ may-stand-spec =
     returns-10
     returns-11
     returns-12
-    returns-13)
+    returns-13
+    returns-14)

@@ -4,19 +4,40 @@ use Rattle.reader.specs.declared.cursor.Cursor.{Cursor}
 use Rattle.tokens.specs.Ascii.{lineFeed}
 use Rattle.tokens.specs.Split.{pieces}
 use Rattle.reader.proofs.Laws.Ahead.{look-line, end-ge}
-use Rattle.text.specs.Known.{arrays, Kept, kept, stateIn, Sound, Sized}
+use Rattle.text.specs.declared.step.Put.{Put}
+use Rattle.text.specs.Known.{arrays, Kept, kept, stateIn, Sound, Sized, Fits, LetsRead}
 use Rattle.text.specs.State.{State, start}
 use Rattle.text.specs.Read.{takeLines}
 use Rattle.text.proofs.Laws.Known.{blank-sound}
-use Rattle.text.proofs.Laws.Stored.{kept-after, sized-after, blank-sized, blank-means}
+use Rattle.text.proofs.Laws.Stored.{letAfter, kept-after, sized-after, blank-sized, blank-means}
 use Rattle.text.proofs.Laws.Walk.{line-refused, line-taken, text-unended, text-ended}
+use denote.Enum.Declared.{tagOf}
+use types.Run.{OneOf}
 use native.Mathlib.Omega.{arith}
-use Prim.Native.Nat.{_≤_, _-_}
-use mathlib.Core.Path.{_≡_, ap, sym, _∙_, subst}
-use lib.ListN.{length, drop}
+use Prim.Native.Nat.{ℕ, _≤_, _-_}
+use mathlib.Core.List.{List, [], _∷_}
+use mathlib.Core.Logic.{⊎-elim}
+use mathlib.Core.Path.{_≡_, refl, ap, sym, _∙_, subst}
+use Rattle.text.specs.declared.types.Statement.{Statement}
+use Rattle.text.specs.declared.known.Known.{Known}
+use Rattle.text.specs.declared.step.Put.the-variants.{Nothing, Map, Input, Stated, Let}
+use Rattle.text.proofs.step.Put.{the-type}
+use lib.ListN.{length, drop, set}
 use borrow.Author.Needs.{needs}
 use Rattle.text.proofs.read.read_lines.Statement.{statement}
 use Rattle.text.proofs.read.read_lines.Tie as tie
+
+-- what is no `let` leaves the statements
+not-let : (s t : List ℕ) (k : Known) (ss : List Statement) (p : Put) → OneOf (0 ∷ 1 ∷ 2 ∷ 3 ∷ []) (tagOf the-type p)
+    → ss ≡ letAfter s t k p ss
+not-let s t k ss Nothing h = refl
+not-let s t k ss (Map x) h = refl
+not-let s t k ss (Input x) h = refl
+not-let s t k ss (Stated x st) h = refl
+not-let s t k ss (Let x f) h =
+    absurd
+    (⊎-elim (λ (e : 4 ≡ 0). omega arith) (⊎-elim (λ (e : 4 ≡ 1). omega arith)
+    (⊎-elim (λ (e : 4 ≡ 2). omega arith) (λ (e : 4 ≡ 3). omega arith))) h)
 
 abbrev Inv-loop : tie.InvT-loop
 Inv-loop s maps₀ statements₀ table₀ k₀ c₀ maps statements table k c =
@@ -113,6 +134,37 @@ mul-statements c = search needs
 array-set-from-statements : tie.Need-array-set-from-statements Inv-loop μ-loop
 array-set-from-statements c = search needs
 
+enum-known-formula : tie.Need-enum-known-formula Inv-loop μ-loop
+enum-known-formula c = search needs
+
+store-let-requires : tie.Need-store-let-requires Inv-loop μ-loop
+store-let-requires c κs =
+    let b = c .before .before .before .before .before .before .before .before .before in
+    let e = b .before .before .before .before .before .before in
+    let s = e .before .before .before .before .before .before .before .args .s .now in
+    let L = e .loop in
+    let is = c .before .before .formula .given .1 in (
+      L .inv .3,
+      subst (λ (p : Put). Fits (L .k) p) is (b .take-line .ensures .fits),
+      subst (λ (p : Put). LetsRead s (L .table) (L .k) p) is (b .take-line .ensures .lets),
+    )
+
+-- the statements of a `let` stand behind the others
+let-told : (c : tie.At-match2-came Inv-loop μ-loop)
+    → let e = c .before .before .before .before .before .before .before .before .before .before .before .before in
+    let s = e .before .before .before .before .before .before .before .args .s .now in
+    c .match2 .statements ≡ letAfter s (e .loop .table) (e .loop .k) (c .before .before .before .before .before .before .take-line .result .put)
+    (set (e .loop .statements) (c .before .before .before .statement-slot .result) (c .before .statement-after .result))
+let-told c =
+    let e = c .before .before .before .before .before .before .before .before .before .before .before .before in
+    let s = e .before .before .before .before .before .before .before .args .s .now in
+    let L = e .loop in
+    let p = c .before .before .before .before .before .before .take-line .result .put in
+    let ss = set (L .statements) (c .before .before .before .statement-slot .result) (c .before .statement-after .result) in
+    ⊎-elim
+    (λ w. w .5 ∙ w .4 .ensures ∙ ap (λ (q : Put). letAfter s (L .table) (L .k) q ss) (sym (w .1 .given .1)))
+    (λ w. w .1 ∙ not-let s (L .table) (L .k) ss p (w .0 .keys2)) (c .match2 .came)
+
 map-slot-requires : tie.Need-map-slot-requires Inv-loop μ-loop
 map-slot-requires c κs = search needs
 
@@ -133,13 +185,13 @@ array-set-from-maps c = search needs
 
 store-requires : tie.Need-store-requires Inv-loop μ-loop
 store-requires c κs =
-    let b = c .before .before .before .before .before .before .before .before .before .before in
+    let b = c .before .before .before .before .before .before .before .before .before .before .before in
     (b .before .before .before .before .before .before .loop .inv .3, b .take-line .ensures .fits)
 
 loop-less : tie.Need-loop-less Inv-loop μ-loop
 loop-less c =
     let b8 = c .before .before .before .before .before .before .before .before in
-    let b = b8 .before .before .before .before .before .before .before in
+    let b = b8 .before .before .before .before .before .before .before .before in
     let e = b .before .before .before in
     let s = e .before .before .before .before .before .before .before .args .s .now in
     let L = e .loop in
@@ -151,7 +203,7 @@ loop-again : tie.Need-loop-again Inv-loop μ-loop
 loop-again c =
     let b3 = c .before .before .before in
     let b8 = c .before .before .before .before .before .before .before .before in
-    let b = b8 .before .before .before .before .before .before .before in
+    let b = b8 .before .before .before .before .before .before .before .before in
     let e = b .before .before .before in
     let s = e .before .before .before .before .before .before .before .args .s .now in
     let L = e .loop in
@@ -159,22 +211,22 @@ loop-again c =
     let a = sym (b .l .given .1) ∙ b .before .before .look .ensures in
     let A = look-line s (L .c) _ _ a in
     let m = c .before .before .before .before .before .before in
-    let i = c .before .before .before .before .before .before .before .before .before .statement-slot in
+    let i = b8 .before .before .statement-slot in
     let j = m .map-slot in
-    let T = m .before .before .before .before .before .before .take-line in
+    let T = b8 .before .before .before .before .before .take-line in
     let told = T .ensures .outcome (arrays (L .maps) (L .statements)) (L .inv .4) in
     let at = ap (λ (n : Cursor). n .at) (A .2) in
     let line = ap (λ (n : Cursor). n .line) (A .2) in
     let ge = end-ge s (L .c .at) in
-    let same = kept-after h (T .result) (T .ensures .fits) (i .result) (j .result) _ _
-    (i .ensures .1) (j .ensures .1) (m .before .statement-after .ensures) (b3 .map-after .ensures)
-    (c .before .store .ensures) in (
+    let same = kept-after s h (T .result) (T .ensures .fits) (i .result) (j .result) _ _
+    (i .ensures .1) (j .ensures .1) (b8 .statement-after .ensures) (b3 .map-after .ensures)
+    (c .before .store .ensures) (let-told (m .before)) in (
       omega (arith, at, A .0),
       omega (arith, at, line, ge, L .inv .1),
       L .inv .2,
       T .ensures .sound,
-      subst (λ (q : Kept). Sized q) (sym same) (sized-after h (T .result) (L .inv .4)),
-      line-taken s h (L .c) (L .inv .5) _ _ a (T .result) told (m .before .before .before .before .if1 .left) same,
+      subst (λ (q : Kept). Sized q) (sym same) (sized-after s h (T .result) (L .inv .4)),
+      line-taken s h (L .c) (L .inv .5) _ _ a (T .result) told (b8 .before .before .before .if1 .left) same,
     )
 
 enum-known-l-2 : tie.Need-enum-known-l-2 Inv-loop μ-loop
@@ -240,6 +292,8 @@ read-lines-spec =
     statement-after-requires
     mul-statements
     array-set-from-statements
+    enum-known-formula
+    store-let-requires
     map-slot-requires
     mul-f
     array-copy-out-f

@@ -51,6 +51,7 @@ returns c =
           (c .before .word-of .result) told;
       sound = c .take-record .ensures .sound;
       fits = c .take-record .ensures .fits;
+      lets = c .take-record .ensures .lets;
     }
 
 make-requires : tie.Need-make-requires
@@ -71,6 +72,7 @@ returns-2 c =
       outcome = λ a z. line-bad (stateIn s (kept t k a)) (d .args .n) l foul;
       sound = d .pre .1;
       fits = tt;
+      lets = tt;
     })
 
 pub take-line-spec : {M : Type 1} → statement M

@@ -40,12 +40,13 @@ returns c =
     record {
       outcome = λ a z.
           let h = kept t (d .args .k) a in
-          record-stops (stateIn s h) (d .args .n) (d .args .w) o (T .result .refusal) (stateIn s (after h (T .result)))
+          record-stops (stateIn s h) (d .args .n) (d .args .w) o (T .result .refusal) (stateIn s (after s h (T .result)))
           (c .if1 .taken)
           (T .ensures .outcome a z
           ∙ (λ i. takes (stateIn s h) (d .args .n) (b3 .may-stand .ensures i) (b4 .«record» .ensures i)));
       sound = T .ensures .sound;
       fits = T .ensures .fits;
+      lets = T .ensures .lets;
     }
 
 staged-requires : tie.Need-staged-requires
@@ -72,22 +73,23 @@ returns-2 c =
     record {
       outcome = λ a z.
           let h = kept t (d .args .k) a in
-          let q = ap (λ (f : ℕ). unless f (stateIn s (after h (T .result)))) (sym (b3 .if1 .left))
+          let q = ap (λ (f : ℕ). unless f (stateIn s (after s h (T .result)))) (sym (b3 .if1 .left))
           ∙ T .ensures .outcome a z
           ∙ (λ i. takes (stateIn s h) (d .args .n) (b6 .may-stand .ensures i) (b7 .«record» .ensures i)) in
-          ap (λ (k : Known). unless 0 (stateIn s (after h (record {
+          ap (λ (k : Known). unless 0 (stateIn s (after s h (record {
             refusal = 0;
             known = k;
             put = T .result .put;
             map = T .result .map;
           })))) e
-          ∙ ap (λ (f : ℕ). unless 0 (atStage (stageAfter w f) (stateIn s (after h (T .result))))) (T .ensures .stage)
-          ∙ record-goes (stateIn s h) (d .args .n) w o (stateIn s (after h (T .result))) q .1;
+          ∙ ap (λ (f : ℕ). unless 0 (atStage (stageAfter w f) (stateIn s (after s h (T .result))))) (T .ensures .stage)
+          ∙ record-goes (stateIn s h) (d .args .n) w o (stateIn s (after s h (T .result))) q .1;
       sound = subst Sound (sym e)
           (steady j (T .ensures .sound) g (j .shares) (j .mapped) (j .result) (j .outputs) (j .named)
           (T .ensures .sound .shares) (T .ensures .sound .mapped) (T .ensures .sound .named)
           (λ l. T .ensures .sound .apart (lower l)));
       fits = T .ensures .fits;
+      lets = T .ensures .lets;
     }
 
 pub take-record-spec : {M : Type 1} → statement M

@@ -18,6 +18,9 @@ enum-known-p-2 c = search needs
 enum-known-p-3 : tie.Need-enum-known-p-3
 enum-known-p-3 c = search needs
 
+enum-known-p-4 : tie.Need-enum-known-p-4
+enum-known-p-4 c = search needs
+
 returns : tie.Need-returns
 returns c =
     let b2 = c .before .before in
@@ -38,6 +41,11 @@ returns-4 c =
     let b3 = c .before .before .before in
     ap (λ (p : Put). mapAfter p (b3 .args .g) (b3 .args .f)) (sym (c .before .p3 .given .1))
 
+returns-5 : tie.Need-returns-5
+returns-5 c =
+    let b3 = c .before .before .before in
+    ap (λ (p : Put). mapAfter p (b3 .args .g) (b3 .args .f)) (sym (c .before .p4 .given .1))
+
 pub map-after-spec : {M : Type 1} → statement M
 map-after-spec =
     tie.close
@@ -46,7 +54,9 @@ map-after-spec =
     enum-known-p
     enum-known-p-2
     enum-known-p-3
+    enum-known-p-4
     returns
     returns-2
     returns-3
-    returns-4)
+    returns-4
+    returns-5)

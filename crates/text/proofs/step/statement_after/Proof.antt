@@ -18,6 +18,9 @@ enum-known-p-2 c = search needs
 enum-known-p-3 : tie.Need-enum-known-p-3
 enum-known-p-3 c = search needs
 
+enum-known-p-4 : tie.Need-enum-known-p-4
+enum-known-p-4 c = search needs
+
 returns : tie.Need-returns
 returns c = ap (λ (p : Put). statementAfter p (c .before .before .args .st)) (sym (c .enum-told .given .1))
 
@@ -30,6 +33,9 @@ returns-3 c = ap (λ (p : Put). statementAfter p (c .before .before .before .arg
 returns-4 : tie.Need-returns-4
 returns-4 c = ap (λ (p : Put). statementAfter p (c .before .before .before .args .st)) (sym (c .before .p3 .given .1))
 
+returns-5 : tie.Need-returns-5
+returns-5 c = ap (λ (p : Put). statementAfter p (c .before .before .before .args .st)) (sym (c .before .p4 .given .1))
+
 pub statement-after-spec : {M : Type 1} → statement M
 statement-after-spec =
     tie.close
@@ -38,7 +44,9 @@ statement-after-spec =
     enum-known-p
     enum-known-p-2
     enum-known-p-3
+    enum-known-p-4
     returns
     returns-2
     returns-3
-    returns-4)
+    returns-4
+    returns-5)

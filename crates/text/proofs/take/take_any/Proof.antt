@@ -62,6 +62,12 @@ take-statement-requires c κs = search needs
 enum-known-r-5 : tie.Need-enum-known-r-5
 enum-known-r-5 c = search needs
 
+take-let-requires : tie.Need-take-let-requires
+take-let-requires c κs = search needs
+
+enum-known-r-6 : tie.Need-enum-known-r-6
+enum-known-r-6 c = search needs
+
 take-result-requires : tie.Need-take-result-requires
 take-result-requires c κs = search needs
 
@@ -137,20 +143,29 @@ returns-7 c =
     let s = d .args .s .now in
     let ps = piecesIn s (d .args .l) in
     known s (d .args .t .now) ps (d .args .k) (d .args .n) (d .args .stands) (c .before .before .r5 .given .1)
-    (c .take-result .ensures ps (d .args .n))
+    (c .take-let .ensures)
 
 returns-8 : tie.Need-returns-8
 unfolding recordIn
 returns-8 c =
+    let d = c .before .before .before .before .before in
+    let s = d .args .s .now in
+    let ps = piecesIn s (d .args .l) in
+    known s (d .args .t .now) ps (d .args .k) (d .args .n) (d .args .stands) (c .before .before .r6 .given .1)
+    (c .take-result .ensures ps (d .args .n))
+
+returns-9 : tie.Need-returns-9
+unfolding recordIn
+returns-9 c =
     let d = c .before .before .before .before in
     let s = d .args .s .now in
     let ps = piecesIn s (d .args .l) in
     known s (d .args .t .now) ps (d .args .k) (d .args .n) (d .args .stands) (c .before .enum-told3 .given .1)
     (c .take-mark2 .ensures s (d .args .t .now) .1 ps (d .args .n))
 
-returns-9 : tie.Need-returns-9
+returns-10 : tie.Need-returns-10
 unfolding recordIn
-returns-9 c =
+returns-10 c =
     let d = c .before .before .before .before in
     let s = d .args .s .now in
     let ps = piecesIn s (d .args .l) in
@@ -174,6 +189,8 @@ take-any-spec =
     enum-known-r-4
     take-statement-requires
     enum-known-r-5
+    take-let-requires
+    enum-known-r-6
     take-result-requires
     enum-told-3
     take-mark-requires-2
@@ -187,4 +204,5 @@ take-any-spec =
     returns-6
     returns-7
     returns-8
-    returns-9)
+    returns-9
+    returns-10)

@@ -1,4 +1,5 @@
 -- No test but the order, and nothing is added. Assumes nothing.
+use Rattle.grammar.specs.Record.{nests}
 use Rattle.grammar.specs.Record.{origin, masked}
 use Rattle.grammar.specs.Recorded.{recordIn}
 use Rattle.text.specs.Scope.{repeats, readsUnknown, exceeds, miscounts, added}
@@ -15,18 +16,18 @@ make-requires : tie.Need-make-requires
 make-requires c κs = search needs
 
 returns : tie.Need-returns
-unfolding recordIn repeats readsUnknown exceeds miscounts added
+unfolding recordIn repeats readsUnknown exceeds miscounts added nests
 returns c = λ s t.
     let a = c .before .before .args in
     let K = c .before .before .pre in
     let q = c .before .first-fault .ensures in (
       λ ps n.
           took-set s t (a .k) K n (a .stands) origin refl q (a .k) refl K
-          (λ x z. record { repeats = refl; unknown = refl; exceeds = refl; miscounts = refl }) (λ x. refl)
+          (λ x z. record { repeats = refl; unknown = refl; exceeds = refl; miscounts = refl; shallow = refl }) (λ x. refl)
           (c .make .ensures),
       λ ps n.
           took-set s t (a .k) K n (a .stands) masked refl q (a .k) refl K
-          (λ x z. record { repeats = refl; unknown = refl; exceeds = refl; miscounts = refl }) (λ x. refl)
+          (λ x z. record { repeats = refl; unknown = refl; exceeds = refl; miscounts = refl; shallow = refl }) (λ x. refl)
           (c .make .ensures),
     )
 

@@ -1,4 +1,5 @@
 -- The names are compared and looked up. Assumes nothing.
+use Rattle.grammar.specs.Record.{nests}
 use mathlib.Core.Option.{Option, none, some}
 use mathlib.Core.Bool.{not}
 use lib.Dec.{eqb}
@@ -37,7 +38,7 @@ make-requires : tie.Need-make-requires
 make-requires c κs = search needs
 
 returns : tie.Need-returns
-unfolding recordIn repeats readsUnknown exceeds miscounts added stateIn namesRead withOutputs
+unfolding recordIn repeats readsUnknown exceeds miscounts added stateIn namesRead withOutputs nests
 returns c = λ n.
     let d = c .before .before .before .before .before .before .before .before .before in
     let k = d .args .k in
@@ -62,6 +63,7 @@ returns c = λ n.
       unknown = found .unknown;
       exceeds = refl;
       miscounts = ap (λ (i : ℕ). not (eqb i (k .shares))) (sym long);
+      shallow = refl;
     })
     (λ y. ap (λ (l : List ℕ). withOutputs l (stateIn s (kept t k y))) (found .places)) (c .make .ensures)
 

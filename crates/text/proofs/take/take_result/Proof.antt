@@ -1,4 +1,5 @@
 -- The name is looked up. Assumes nothing.
+use Rattle.grammar.specs.Record.{nests}
 use Rattle.grammar.specs.declared.record.Rec.the-variants as rec
 use Rattle.grammar.specs.declared.line.NameRead.{NameRead}
 use Rattle.grammar.specs.Line.{nameIn}
@@ -35,7 +36,7 @@ make-requires-2 : tie.Need-make-requires-2
 make-requires-2 c κs = search needs
 
 returns : tie.Need-returns
-unfolding recordIn repeats readsUnknown exceeds miscounts added stateIn nameFound withResult
+unfolding recordIn repeats readsUnknown exceeds miscounts added stateIn nameFound withResult nests
 returns c = λ ps n.
     let d = c .before .before .before .before .before .before .before in
     let k = d .args .k in
@@ -55,6 +56,7 @@ returns c = λ ps n.
       unknown = ap (λ (q : NameFound). q .unknown) found;
       exceeds = refl;
       miscounts = refl;
+      shallow = refl;
     })
     (λ y. ap (λ (q : NameFound). withResult (q .place) (stateIn s (kept t k y))) found) (c .make .ensures)
 

@@ -89,10 +89,17 @@ returns-5 c =
       sym (c .before .same5 .ensures) ∙ c .if5 .taken,
     )
 
+slice-aggregate-same-6 : tie.Need-slice-aggregate-same-6
+slice-aggregate-same-6 c = search needs
+
+same-requires-6 : tie.Need-same-requires-6
+same-requires-6 c κs = search needs
+
 returns-6 : tie.Need-returns-6
 unfolding statementWord ascii
 returns-6 c =
-    let d4 = c .before .before .before in
+    let d5 = c .before .before .before in
+    let d4 = d5 .before .before .before in
     let d3 = d4 .before .before .before in
     let d2 = d3 .before .before .before in
     let d1 = d2 .before .before .before in
@@ -101,7 +108,25 @@ returns-6 c =
       sym (d2 .before .same2 .ensures) ∙ d2 .if2 .left,
       sym (d3 .before .same3 .ensures) ∙ d3 .if3 .left,
       sym (d4 .before .same4 .ensures) ∙ d4 .if4 .left,
-      sym (c .before .same5 .ensures) ∙ c .if5 .left,
+      sym (d5 .before .same5 .ensures) ∙ d5 .if5 .left,
+      sym (c .before .same6 .ensures) ∙ c .if6 .taken,
+    )
+
+returns-7 : tie.Need-returns-7
+unfolding statementWord ascii
+returns-7 c =
+    let d5 = c .before .before .before in
+    let d4 = d5 .before .before .before in
+    let d3 = d4 .before .before .before in
+    let d2 = d3 .before .before .before in
+    let d1 = d2 .before .before .before in
+    simp (
+      sym (d1 .before .same .ensures) ∙ d1 .if1 .left,
+      sym (d2 .before .same2 .ensures) ∙ d2 .if2 .left,
+      sym (d3 .before .same3 .ensures) ∙ d3 .if3 .left,
+      sym (d4 .before .same4 .ensures) ∙ d4 .if4 .left,
+      sym (d5 .before .same5 .ensures) ∙ d5 .if5 .left,
+      sym (c .before .same6 .ensures) ∙ c .if6 .left,
     )
 
 pub statement-word-spec : {M : Type 1} → statement M
@@ -123,4 +148,7 @@ statement-word-spec =
     slice-aggregate-same-5
     same-requires-5
     returns-5
-    returns-6)
+    slice-aggregate-same-6
+    same-requires-6
+    returns-6
+    returns-7)

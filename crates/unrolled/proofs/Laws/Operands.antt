@@ -1,0 +1,147 @@
+-- The names and operands of the lines of a `let`: what is needed of the names that its statements give, and that each
+-- operand stands for the value that it stands for in the formula. Assumes nothing.
+use Prim.Native.Nat.{ℕ, suc, _+_, _≤_, _<_}
+use native.Mathlib.Omega.{arith}
+use mathlib.Core.Path.{_≡_, refl, sym, ap, ap₂, _∙_, subst}
+use mathlib.Core.Logic.{inl}
+use mathlib.Core.Bool.{Bool, true, false}
+use mathlib.Core.List.{List, _∷_, _++_, append-assoc}
+use lib.Dec.{eqb}
+use lib.ListN.{length, take, drop, getD, length-append}
+use lib.Seq.{take-take, getD-take, split-at, length-take-le}
+use Rattle.tokens.specs.declared.word.Word.the-variants as Word
+use Rattle.tokens.specs.Token.{Name, Term, name, byte}
+use Rattle.tokens.proofs.Laws.Written.{Named}
+use Rattle.tokens.proofs.Laws.Terms.{Termed, named-termed}
+use Rattle.grammar.specs.Formula.{Formula, operand, operations}
+use Rattle.grammar.specs.Formula as formula
+use Rattle.grammar.specs.Record.{Form, xor, mul}
+use Rattle.grammar.proofs.Laws.Written.{SpeltForm, wordFor}
+use Rattle.grammar.proofs.Laws.Spelt.{Spelt}
+use Rattle.text.specs.declared.types.Operand.{Operand}
+use Rattle.text.specs.declared.types.Operand.the-variants.{Place}
+use Rattle.text.specs.declared.types.Op.{Op}
+use Rattle.text.specs.declared.types.Op.the-variants as Op
+use Rattle.text.specs.Limits.{mostVariables, mostStatements}
+use Rattle.text.specs.Order.{inMasked, mayStand}
+use Rattle.text.specs.State.{State}
+use Rattle.text.specs.Grown.{unnamed}
+use Rattle.text.specs.Scope.{placeOf, missing, unknownTerm, unknownForm, unknownFormula, drawn, statementCount}
+use Rattle.text.specs.Scope.{operandIn, opIn, valueOf}
+use Rattle.unrolled.specs.Unrolled.{termFor}
+use Rattle.unrolled.proofs.Laws.Set.{In, in-left, in-right, missing-in, place-left, place-next}
+use Rattle.unrolled.proofs.Laws.Blocks.{namesOf}
+
+-- What a `let` needs of the names ns that its statements give, in a block that holds ms: each is a name that a field
+-- spells, and is new behind those before it; names that are given keep their places.
+pub record Ready (b : Bool) (q : State) (ms ns : List Name) : Type 0 where
+  pub block : eqb (q .stage) inMasked ≡ b
+  pub stands : mayStand Word.Let (q .stage) ≡ true
+  pub size : length (namesOf b q) ≡ length ms
+  pub holds : (n : Name) → Named n → missing ms n ≡ false → In n (namesOf b q)
+  pub place : (n : Name) → Named n → missing ms n ≡ false → placeOf n (namesOf b q) ≡ placeOf n ms
+  pub named : (i : ℕ) → i < length ns → Named (getD ns i unnamed)
+  pub fresh : (i : ℕ) → i < length ns → In (getD ns i unnamed) (namesOf b q ++ take i ns) → ⊥
+  pub room : statementCount q + length ns ≤ mostStatements
+  pub few : q .variables ≤ mostVariables
+
+module _ (b : Bool) (q : State) (ms ns : List Name) (R : Ready b q ms ns) where
+  -- the names before place i of a `let`, behind those of the block
+  abbrev pub upTo : ℕ → List Name
+  upTo i = namesOf b q ++ take i ns
+
+  -- the value of an operation before place i
+  inner-place : (i j : ℕ) → j < i → i ≤ length ns
+      → In (getD ns j unnamed) (upTo i) × (placeOf (getD ns j unnamed) (upTo i) ≡ length ms + j)
+  inner-place i j h l =
+      let y = getD ns j unnamed in
+      let rest : List Name = drop (suc j) (take i ns) in
+      let size : length (take i ns) ≡ i = length-take-le i ns l in
+      let split : take i ns ≡ take j ns ++ y ∷ rest =
+      split-at (take i ns) j unnamed (omega arith)
+      ∙ ap₂ {C = List Name} (λ (a : List Name) (z : Name). a ++ z ∷ rest)
+      (take-take j i ns (omega arith)) (getD-take i ns j unnamed h) in
+      let whole : upTo i ≡ upTo j ++ y ∷ rest =
+      ap (λ (a : List Name). namesOf b q ++ a) split ∙ sym (append-assoc (namesOf b q) (take j ns) (y ∷ rest)) in
+      let there = place-next y (upTo j) rest (R .fresh j (omega arith)) in
+      let count : length (upTo j) ≡ length ms + j =
+      omega (arith, R .size, length-append (namesOf b q) (take j ns), length-take-le j ns (omega arith)) in (
+        subst (In y) (sym whole) (in-right y (upTo j) (y ∷ rest) (inl refl)),
+        ap (placeOf y) whole ∙ there ∙ count,
+      )
+
+  -- what is known of the operand that a part's value is
+  pub record OperandIs (i at : ℕ) (g : Formula) : Type 0 where
+    pub termed : Termed (termFor ns at g)
+    pub known : unknownTerm (upTo i) (termFor ns at g) ≡ false
+    pub value : operandIn (upTo i) (termFor ns at g) ≡ valueOf ms (length ms + at) g
+
+  -- the value of an operation
+  inner-is : (i j p : ℕ) → j < i → i ≤ length ns → p ≡ length ms + j
+      → Termed (name (getD ns j unnamed)) × (unknownTerm (upTo i) (name (getD ns j unnamed)) ≡ false)
+      × (operandIn (upTo i) (name (getD ns j unnamed)) ≡ Place p)
+  unfolding unknownTerm operandIn
+  inner-is i j p h l e =
+      let k = inner-place i j h l in (
+        named-termed (getD ns j unnamed) (R .named j (omega arith)),
+        missing-in (getD ns j unnamed) (upTo i) (k .0),
+        ap Place (k .1 ∙ sym e),
+      )
+
+  -- THEOREM: an operand of a line stands for the value that it stands for in the formula
+  pub term-is : (g : Formula) (at i : ℕ) → at + operations g ≤ i → i ≤ length ns → Spelt g
+      → (maps : List Name) → unknownFormula ms maps g ≡ false → OperandIs i at g
+  unfolding termFor valueOf operations unknownFormula unknownTerm operandIn
+  term-is (operand (name n)) at i h l S maps e =
+      let k = R .holds n (S .named) e in
+      record {
+        termed = S;
+        known = missing-in n (upTo i) (in-left n (namesOf b q) (take i ns) k);
+        value = ap Place (place-left n (namesOf b q) (take i ns) k ∙ R .place n (S .named) e);
+      }
+  term-is (operand (byte c)) at i h l S maps e = record { termed = S; known = refl; value = refl }
+  term-is (formula.xor a c) at i h l S maps e =
+      let k = inner-is i (at + (operations a + operations c)) (length ms + at + (operations a + operations c))
+      (omega arith) l (omega arith) in
+      record { termed = k .0; known = k .1; value = k .2 }
+  term-is (formula.mul a c) at i h l S maps e =
+      let k = inner-is i (at + (operations a + operations c)) (length ms + at + (operations a + operations c))
+      (omega arith) l (omega arith) in
+      record { termed = k .0; known = k .1; value = k .2 }
+  term-is (formula.app f a) at i h l S maps e =
+      let k = inner-is i (at + operations a) (length ms + at + operations a) (omega arith) l (omega arith) in
+      record { termed = k .0; known = k .1; value = k .2 }
+
+-- ---- operations on two values
+
+-- what is known of the statements of an operation on two values
+pub record Twofold (stage : ℕ) (mk : Term → Term → Form) (op : Operand → Operand → Op) : Type 0 where
+  pub formed : (x y : Term) → Termed x → Termed y → SpeltForm (mk x y)
+  pub draws : (x y : Term) → drawn (mk x y) ≡ 0
+  pub stands : (x y : Term) → mayStand (wordFor (mk x y)) stage ≡ true
+  pub known : (l maps : List Name) (x y : Term) → unknownTerm l x ≡ false → unknownTerm l y ≡ false
+      → unknownForm l maps (mk x y) ≡ false
+  pub computes : (l maps : List Name) (v : ℕ) (x y : Term)
+      → opIn l maps v (mk x y) ≡ op (operandIn l x) (operandIn l y)
+
+-- the sum
+pub xor-twofold : (stage : ℕ) → mayStand Word.Let stage ≡ true → Twofold stage xor Op.Xor
+unfolding drawn unknownForm opIn
+xor-twofold stage h = record {
+  formed = λ x y a c. (a, c);
+  draws = λ x y. refl;
+  stands = λ x y. h;
+  known = λ l maps x y a c. rw (a, c);
+  computes = λ l maps v x y. refl;
+}
+
+-- the product
+pub mul-twofold : (stage : ℕ) → mayStand Word.Let stage ≡ true → Twofold stage mul Op.Mul
+unfolding drawn unknownForm opIn
+mul-twofold stage h = record {
+  formed = λ x y a c. (a, c);
+  draws = λ x y. refl;
+  stands = λ x y. h;
+  known = λ l maps x y a c. rw (a, c);
+  computes = λ l maps v x y. refl;
+}

@@ -1,0 +1,4 @@
+pub mod Laws
+pub mod Unrolled
+pub mod Judged
+pub mod Examples

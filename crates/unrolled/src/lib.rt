@@ -1,0 +1,1 @@
+// The unrolled form of a text: definitions and theorems alone.
