@@ -25,10 +25,11 @@ pub mod Letting
 pub mod Looking
 pub mod Parts
 pub mod Begun
-pub mod Compiling
 pub mod Decoding
+pub mod LetDecoding
 pub mod LetWriting
 pub mod LetTaking
+pub mod Compiling
 pub mod Formed
 pub mod Placed
 pub mod LetPlaced

@@ -228,10 +228,6 @@ nameSlot k = cond (eqb (k .stage) inMasked) (maskedFrom + k .parts) (originFrom 
 abbrev pub statementSlot : Known → ℕ
 statementSlot k = cond (ltb (k .origin + k .masked) mostStatements) (k .origin + k .masked) 0
 
--- the place of the next map, or 0 where there is no room
-abbrev pub mapSlot : Known → ℕ
-mapSlot k = cond (ltb (k .mapped) mostMaps) (k .mapped) 0
-
 -- the table behind a record
 abbrev pub tableAfter : List ℕ → Known → Put → List ℕ
 tableAfter t k Nothing = t
@@ -248,13 +244,13 @@ statementAfter (Input x) st = st
 statementAfter (Stated x given) st = given
 statementAfter (Let x l) st = st
 
--- the map behind a record, where f stood: the one that it gives, or f
-abbrev pub mapAfter : Put → AffineMap → AffineMap → AffineMap
-mapAfter Nothing g f = f
-mapAfter (Map x) g f = g
-mapAfter (Input x) g f = f
-mapAfter (Stated x given) g f = f
-mapAfter (Let x l) g f = f
+-- the maps behind a record, g being the map that it may give
+abbrev pub mapsAfter : List AffineMap → Known → Put → AffineMap → List AffineMap
+mapsAfter fs k Nothing g = fs
+mapsAfter fs k (Map x) g = set fs (k .mapped) g
+mapsAfter fs k (Input x) g = fs
+mapsAfter fs k (Stated x given) g = fs
+mapsAfter fs k (Let x l) g = fs
 
 -- the statements of a `let`, its field in the text s and the names above it in the table t
 abbrev pub letStatements : List ℕ → List ℕ → Known → Letting → List Statement

@@ -18,7 +18,7 @@ use Rattle.text.specs.Limits.{mostStatements}
 use Rattle.text.specs.Order.{inMasked}
 use Rattle.text.specs.Scope.{unknownFormula, letCount, letOps, stated}
 use Rattle.text.specs.Names.{put}
-use Rattle.text.specs.Compiled.{written}
+use Rattle.text.specs.Compiled.{opAt, written}
 
 -- the field that holds the formula
 abbrev pub fieldOf : List ℕ → Letting → List ℕ
@@ -32,6 +32,11 @@ counted n = cond (eqb n 0) 1 n
 abbrev pub statementsOf : ℕ → List Name → List Name → Option Formula → List Statement
 statementsOf n ms maps none = []
 statementsOf n ms maps (some e) = stated n (letOps ms maps (length ms) e)
+
+-- the statements of the entries of an array from i on, m of them, all with line n
+unfoldable pub opsFrom : List ℕ → ℕ → ℕ → ℕ → List Statement
+opsFrom c n i zero = []
+opsFrom c n i (suc m) = record { op = opAt c i; line = n } ∷ opsFrom c n (i + 1) m
 
 -- an array with other elements from place `at` on
 unfoldable pub setAll : {A : Type 0} → List A → ℕ → List A → List A

@@ -8,7 +8,6 @@ pub mod Names
 pub mod Routine
 pub mod Found
 pub mod Compiled
-pub mod Decoded
 pub mod Lets
 pub mod Known
 pub mod Taken

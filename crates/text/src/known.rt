@@ -1,6 +1,5 @@
 // What the lines above have given, in numbers: the stage, the counts, the result and the outputs.
 use crate::limits::MASKED_FROM;
-use crate::limits::MOST_MAPS;
 use crate::limits::MOST_STATEMENTS;
 use crate::limits::MOST_VARIABLES;
 use crate::limits::ORIGIN_FROM;
@@ -12,11 +11,11 @@ use tokens::limits::MOST_SHARES;
 use tokens::word::Word;
 ghost use mathlib.Core.Path.{_≡_};
 ghost use Prim.Native.Nat.{_≤_, _<_};
-ghost use Rattle.text.specs.Limits.{mostMaps, mostStatements};
+ghost use Rattle.text.specs.Limits.{mostStatements};
 ghost use Rattle.text.specs.Names.{Within};
 ghost use Rattle.text.specs.Order.{stageAfter};
 ghost use Rattle.text.specs.Known.{Sound, blank, atStage, stated, crowded, blockNames};
-ghost use Rattle.text.specs.Known.{nameSlot, statementSlot, mapSlot};
+ghost use Rattle.text.specs.Known.{nameSlot, statementSlot};
 
 // The state of reading between two lines, but for the names, maps and statements themselves.
 pub struct Known {
@@ -126,17 +125,6 @@ pub(crate) fn statement_slot(k: Known) -> usize
 {
     let at = k.origin + k.masked;
     if at < MOST_STATEMENTS {
-        return at;
-    }
-    0
-}
-
-// The place of the next map, or 0 where there is no room.
-pub(crate) fn map_slot(k: Known) -> usize
-    ensures { λ r. ⌜ (r < mostMaps) × (r ≡ mapSlot k) ⌝ }
-{
-    let at = k.mapped;
-    if at < MOST_MAPS {
         return at;
     }
     0

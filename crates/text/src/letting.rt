@@ -3,9 +3,9 @@ use crate::compile;
 use crate::compile::CODES;
 use crate::compile::Codes;
 use crate::compile::Lookup;
+use crate::decode;
 use crate::known;
 use crate::known::Known;
-use crate::limits::MOST_NAMES;
 use crate::limits::MOST_STATEMENTS;
 use crate::names::Names;
 use crate::names::Table;
@@ -17,7 +17,6 @@ use crate::step::Step;
 use crate::step::first_fault;
 use crate::step::make;
 use crate::types::Op;
-use crate::types::Operand;
 use crate::types::Statement;
 use grammar::formula;
 use grammar::line;
@@ -28,7 +27,7 @@ use tokens::limits::MOST_DEPTH;
 use tokens::split;
 ghost use mathlib.Core.Path.{_≡_};
 ghost use mathlib.Core.Bool.{true};
-ghost use Prim.Native.Nat.{_+_, _≤_, _<_};
+ghost use Prim.Native.Nat.{_+_, _≤_};
 ghost use lib.ListN.{length};
 ghost use Rattle.grammar.specs.declared.record.Rec.the-variants as rec;
 ghost use Rattle.grammar.specs.Line.{Inside, piecesIn, nameIn};
@@ -37,8 +36,8 @@ ghost use Rattle.grammar.specs.Recorded.{formulaOf, letIn};
 ghost use Rattle.text.specs.Limits.{mostStatements};
 ghost use Rattle.text.specs.Order.{inMasked};
 ghost use Rattle.text.specs.Names.{namesIn};
-ghost use Rattle.text.specs.Decoded.{operandOf, opAt, opsFrom};
-ghost use Rattle.text.specs.Lets.{fieldOf, counted, setAll, letAdded, LetFits, LetRead, LetRoom, LetWritten, Shallow};
+ghost use Rattle.text.specs.Lets.{fieldOf, counted, setAll, opsFrom, letAdded};
+ghost use Rattle.text.specs.Lets.{LetFits, LetRead, LetRoom, LetWritten, Shallow};
 ghost use Rattle.text.specs.Known.{Sound, blockNames, mapNames, letStatements};
 ghost use Rattle.text.specs.Taken.{Took, TookLine};
 
@@ -148,9 +147,11 @@ pub(crate) fn with_statements(k: Known, n: usize) -> Known
 // Looks up the formula of a `let` and writes its operations; an operand alone counts as a `set`.
 // Whether it reads what is not given.
 pub(crate) fn write_let(s: &[u8], t: &Table, k: Known, f: Letting, out: &mut Codes) -> bool
-    requires { ⌜ (Sound k) × (f .at + f .len ≤ length (now s)) × LetRoom (readFormula (fieldOf (now s) f)) ⌝ }
+    requires { ⌜ (Sound k) × (f .at + f .len ≤ length (now s))
+        × LetRoom (readFormula (fieldOf (now s) f)) ⌝ }
     ensures { λ r. ⌜ LetWritten (namesIn (now (s .entry)) (now (t .entry)) (blockNames k))
-        (namesIn (now (s .entry)) (now (t .entry)) (mapNames k)) (now (out .entry)) (now (out .exit)) r
+        (namesIn (now (s .entry)) (now (t .entry)) (mapNames k)) (now (out .entry))
+        (now (out .exit)) r
         (readFormula (fieldOf (now (s .entry)) f)) ⌝ }
 {
     let names = known::block_names(k);
@@ -182,7 +183,8 @@ pub(crate) fn store_let(
     statements: [Statement; MOST_STATEMENTS],
 ) -> [Statement; MOST_STATEMENTS]
     requires { ⌜ (Sound k) × (LetFits k (f .count))
-        × LetRead (now s) (namesIn (now s) (now t) (blockNames k)) (namesIn (now s) (now t) (mapNames k)) f ⌝ }
+        × LetRead (now s) (namesIn (now s) (now t) (blockNames k))
+        (namesIn (now s) (now t) (mapNames k)) f ⌝ }
     ensures { λ r. ⌜ r ≡ setAll statements (k .origin + k .masked)
         (letStatements (now (s .entry)) (now (t .entry)) k f) ⌝ }
 {
@@ -205,41 +207,9 @@ pub(crate) fn put_statements(
     let mut next = statements;
     let mut i = 0;
     while i < count {
-        let op = op_at(codes, i);
-        let st = Statement { op, line };
+        let st = decode::statement_at(codes, i, line);
         next[at + i] = st;
         i += 1;
     }
     next
-}
-
-// The operation that is entry i.
-pub(crate) fn op_at(codes: &Codes, i: usize) -> Op
-    requires { ⌜ i < mostStatements ⌝ }
-    ensures { λ r. ⌜ r ≡ opAt (now (codes .entry)) i ⌝ }
-{
-    let j = 3 * i;
-    let kind = codes[j];
-    let left = codes[j + 1];
-    let right = operand_of(codes[j + 2]);
-    if kind == 0 {
-        return Op::Set(operand_of(left));
-    }
-    if kind == 1 {
-        return Op::Xor(operand_of(left), right);
-    }
-    if kind == 2 {
-        return Op::Mul(operand_of(left), right);
-    }
-    Op::App(left, right)
-}
-
-// The operand that a number stands for.
-pub(crate) fn operand_of(c: usize) -> Operand
-    ensures { λ r. ⌜ r ≡ operandOf c ⌝ }
-{
-    if c < MOST_NAMES {
-        return Operand::Place(c);
-    }
-    Operand::Byte(((c - MOST_NAMES) % 256) as u8)
 }

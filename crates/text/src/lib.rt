@@ -2,6 +2,7 @@
 pub mod assign;
 pub mod compile;
 pub mod declare;
+pub mod decode;
 pub mod known;
 pub mod letting;
 pub mod limits;

@@ -184,10 +184,9 @@ pub(crate) fn read_lines(s: &[u8], from: Cursor) -> Reading
     loop {
         match cursor::look(s, c) {
             Ahead::Line(l, next) => {
-                let n = next.line;
-                let step = take_line(s, &table, k, l, n);
+                let step = take_line(s, &table, k, l, next.line);
                 if step.refusal != 0 {
-                    return refuse(step.refusal, n);
+                    return refuse(step.refusal, next.line);
                 }
                 let put = step.put;
                 let i = known::statement_slot(k);
@@ -199,11 +198,9 @@ pub(crate) fn read_lines(s: &[u8], from: Cursor) -> Reading
                     let more = letting::store_let(s, &table, k, f, statements);
                     statements = more;
                 }
-                let j = known::map_slot(k);
-                let f = maps[j];
                 let map = step.map;
-                let added = step::map_after(put, map, f);
-                maps[j] = added;
+                let all = step::maps_after(maps, k, put, map);
+                maps = all;
                 names::store(&mut table, k, put);
                 k = step.known;
                 c = next;

@@ -1,12 +1,13 @@
 // What one record leads to: its first fault, or what is known behind it and what is to be stored.
 use crate::known::Known;
+use crate::limits::MOST_MAPS;
 use crate::types::AffineMap;
 use crate::types::Statement;
 use grammar::line::NameRef;
 use tokens::limits::COLUMNS;
 ghost use mathlib.Core.Path.{_≡_};
 ghost use mathlib.Core.Bool.{_&&_, _||_};
-ghost use Rattle.text.specs.Known.{statementAfter, mapAfter};
+ghost use Rattle.text.specs.Known.{Fits, statementAfter, mapsAfter};
 ghost use Rattle.text.specs.Taken.{firstFault, stepOf};
 
 // A formula: where its field stands, how many statements it counts as, and its line.
@@ -65,16 +66,27 @@ pub(crate) fn statement_after(p: Put, st: Statement) -> Statement
     }
 }
 
-// The map behind a record, where f stood: the one that it gives, or f.
-pub(crate) fn map_after(p: Put, g: AffineMap, f: AffineMap) -> AffineMap
-    ensures { λ r. ⌜ r ≡ mapAfter p g f ⌝ }
+// The maps behind a record: with the one that it gives behind them.
+pub(crate) fn maps_after(
+    maps: [AffineMap; MOST_MAPS],
+    k: Known,
+    p: Put,
+    g: AffineMap,
+) -> [AffineMap; MOST_MAPS]
+    requires { ⌜ Fits k p ⌝ }
+    ensures { λ r. ⌜ r ≡ mapsAfter maps k p g ⌝ }
 {
     match p {
-        Put::Nothing => f,
-        Put::Map(x) => g,
-        Put::Input(x) => f,
-        Put::Stated(x, given) => f,
-        Put::Let(x, l) => f,
+        Put::Nothing => maps,
+        Put::Map(x) => {
+            let mut next = maps;
+            let at = k.mapped;
+            next[at] = g;
+            next
+        }
+        Put::Input(x) => maps,
+        Put::Stated(x, given) => maps,
+        Put::Let(x, l) => maps,
     }
 }
 

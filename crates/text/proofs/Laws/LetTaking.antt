@@ -27,10 +27,11 @@ use Rattle.text.specs.declared.step.Step.{Step}
 use Rattle.text.specs.Limits.{mostStatements}
 use Rattle.text.specs.Order.{inMasked}
 use Rattle.text.specs.Grown.{withOriginAll, withMaskedAll}
-use Rattle.text.specs.Scope.{given, block, repeats, readsUnknown, exceeds, miscounts, added, unknownFormula}
-use Rattle.text.specs.Scope.{letCount, letOps, stated}
+use Rattle.text.specs.Scope.{given, repeats, readsUnknown, exceeds, miscounts, added, unknownFormula}
+use Rattle.text.specs.Scope.{letOps, stated}
 use Rattle.text.specs.Names.{namesIn}
-use Rattle.text.specs.Lets.{fieldOf, counted, statementsOf, letAdded, LetFits, LetRead, LetIs, LetWritten, Shallow}
+use Rattle.text.specs.Lets.{fieldOf, counted, statementsOf, letAdded, LetFits, LetRead, LetIs, LetWritten}
+use Rattle.text.specs.Lets.{Shallow}
 use Rattle.text.specs.Known.{Arrays, kept, stateIn, Sound, Sized, mapNames, blockNames, letStatements, after}
 use Rattle.text.specs.Taken.{firstFault, stepOf, Took}
 use Rattle.text.proofs.Laws.Letting.{let-length, let-some}

@@ -1,23 +1,23 @@
 -- A formula of a field, looked up: there is room for its operations, and an operand alone is written as a `set`.
 -- Assumes nothing.
-use Prim.Native.Nat.{ℕ, zero, suc, _+_, _*_, _≤_, _<_}
+use Prim.Native.Nat.{ℕ, _+_, _*_, _≤_}
 use native.Mathlib.Omega.{arith}
 use mathlib.Core.Path.{_≡_, refl, sym, _∙_, ap, subst}
 use mathlib.Core.Bool.{Bool, true, false, cond}
-use mathlib.Core.List.{List, []}
+use mathlib.Core.List.{List}
 use mathlib.Core.Option.{Option, none, some}
-use lib.Dec.{ltb, eqb}
+use lib.Dec.{eqb}
 use lib.ListN.{length, take, drop}
 use lib.Seq.{length-take-le}
 use lib.ListN.{length-drop}
-use borrow.Author.Tests.{ltb-true, ltb-false, ne-eqb}
+use borrow.Author.Tests.{ne-eqb}
 use Rattle.tokens.specs.Token.{_>>=_, provided, Name}
-use Rattle.grammar.specs.Formula.{Formula, Parsed, operand, xor, mul, app, depth, greater, operations, parsed, whole}
+use Rattle.grammar.specs.Formula.{Formula, Parsed, operand, xor, mul, app, operations, parsed, whole}
 use Rattle.grammar.specs.Formula.{readFormula}
 use Rattle.text.specs.declared.types.Op.the-variants.{Set}
 use Rattle.text.specs.declared.compile.Compiled.{Compiled}
 use Rattle.text.specs.Limits.{mostStatements}
-use Rattle.text.specs.Scope.{operandIn, valueOf, letCount, letOps, compiled}
+use Rattle.text.specs.Scope.{valueOf, letCount, letOps, compiled}
 use Rattle.text.specs.Compiled.{putOp, written, CompileIs, Compiles, Room}
 use Rattle.text.specs.declared.known.Known.{Known}
 use Rattle.text.specs.declared.names.Names.{Names}
@@ -26,55 +26,16 @@ use Rattle.text.specs.Limits.{mostNames}
 use Rattle.text.specs.Order.{inMasked}
 use Rattle.text.specs.Names.{namesIn, Within}
 use Rattle.text.specs.Compiled.{Looks}
-use Rattle.text.specs.Decoded.{opsFrom}
 use Rattle.text.specs.Known.{Sound, blockNames, mapNames, maskedNames, originNames, letStatements}
-use Rattle.text.specs.Lets.{fieldOf, statementsOf, counted, LetFits, LetRead, LetRoom, LetIs, LetWritten, Shallow}
+use Rattle.text.specs.Lets.{opsFrom, fieldOf, statementsOf, counted, LetFits, LetRead, LetRoom, LetIs}
+use Rattle.text.specs.Lets.{LetWritten, Shallow}
 use Rattle.grammar.proofs.Laws.Holding.{Holds, FormedFormula, formula-formed}
 use Rattle.text.proofs.Laws.Named.{listed-length}
 use Rattle.text.proofs.Laws.LetBlock.{let-places}
-use Rattle.text.proofs.Laws.Decoding.{let-back}
+use Rattle.text.proofs.Laws.Letting.{shallow-few}
+use Rattle.text.proofs.Laws.LetDecoding.{let-back}
 
--- ---- how many operations there can be
-
--- the most operations of a formula so deep
-most : ℕ → ℕ
-most zero = 0
-most (suc d) = most d + most d + 1
-
-greater-left : (a b : ℕ) → a ≤ greater a b
-greater-left a b = go (ltb a b) refl
-  where
-    go : (c : Bool) → ltb a b ≡ c → a ≤ cond c b a
-    go true e = omega (arith, ltb-true a b e)
-    go false e = omega arith
-
-greater-right : (a b : ℕ) → b ≤ greater a b
-greater-right a b = go (ltb a b) refl
-  where
-    go : (c : Bool) → ltb a b ≡ c → b ≤ cond c b a
-    go true e = omega arith
-    go false e = omega (arith, ltb-false a b e)
-
-most-deep : (e : Formula) (d : ℕ) → depth e ≤ d → operations e ≤ most d
-unfolding depth operations most
-most-deep (operand a) d h = omega arith
-most-deep (xor a b) zero h = absurd (omega arith)
-most-deep (xor a b) (suc d) h =
-    let x = greater-left (depth a) (depth b) in
-    let y = greater-right (depth a) (depth b) in
-    omega (arith, most-deep a d (omega arith), most-deep b d (omega arith))
-most-deep (mul a b) zero h = absurd (omega arith)
-most-deep (mul a b) (suc d) h =
-    let x = greater-left (depth a) (depth b) in
-    let y = greater-right (depth a) (depth b) in
-    omega (arith, most-deep a d (omega arith), most-deep b d (omega arith))
-most-deep (app f a) zero h = absurd (omega arith)
-most-deep (app f a) (suc d) h = omega (arith, most-deep a d (omega arith))
-
--- a formula that nests no deeper than a text may has room
-pub shallow-room : (e : Formula) → depth e ≤ 8 → operations e ≤ mostStatements
-unfolding most
-shallow-room e h = omega (arith, most-deep e 8 h)
+-- ---- how many statements there are
 
 -- as many statements as its operations count as
 pub counted-is : (e : Formula) → counted (operations e) ≡ letCount e
@@ -191,8 +152,8 @@ let-few (mul a b) = omega arith
 let-few (app f a) = omega arith
 
 -- it counts as few statements
-pub shallow-few : (s : List ℕ) (f : Letting) → Shallow s f → f .count ≤ 257
-shallow-few s f S = omega (arith, S .count, let-few (S .formula), shallow-room (S .formula) (S .shallow))
+pub shallow-count : (s : List ℕ) (f : Letting) → Shallow s f → f .count ≤ mostStatements
+shallow-count s f S = omega (arith, S .count, let-few (S .formula), shallow-few (S .formula) (S .shallow))
 
 -- there is room for a formula that was read
 pub read-room : (s : List ℕ) (ms maps : List Name) (f : Letting) → LetRead s ms maps f → f .count ≤ mostStatements
@@ -202,7 +163,7 @@ read-room s ms maps f R h =
 
 -- there is room for a formula that does not nest too deep
 pub shallow-fits : (s : List ℕ) (f : Letting) → Shallow s f → LetRoom (readFormula (fieldOf s f))
-shallow-fits s f S = subst LetRoom (sym (S .read)) (shallow-room (S .formula) (S .shallow))
+shallow-fits s f S = subst LetRoom (sym (S .read)) (omega (arith, shallow-few (S .formula) (S .shallow)))
 
 module _ (s t : List ℕ) (k : Known) (f : Letting) (n : Names) (e : n ≡ blockNames k) (p : List ℕ) (q : p ≡ fieldOf s f)
   where
@@ -242,16 +203,16 @@ module _ (s t : List ℕ) (k : Known) (f : Letting) (n : Names) (e : n ≡ block
           → LetWritten (namesIn s t (blockNames k)) (namesIn s t (mapNames k)) entry exit (r .unknown)
           (readFormula (fieldOf s f))
       let-alone z x =
-          told (written-alone (namesIn s t n) (namesIn s t (mapNames k)) (n .count) (names-count s t n) p entry mid exit r
-          C z x)
+          told (written-alone (namesIn s t n) (namesIn s t (mapNames k)) (n .count) (names-count s t n) p entry mid
+          exit r C z x)
 
       -- the operations are those of the `let`
       pub let-several : (r .done ≡ 0 → ⊥) → exit ≡ mid
           → LetWritten (namesIn s t (blockNames k)) (namesIn s t (mapNames k)) entry exit (r .unknown)
           (readFormula (fieldOf s f))
       let-several z x =
-          told (written-several (namesIn s t n) (namesIn s t (mapNames k)) (n .count) (names-count s t n) p entry mid exit
-          r C z x)
+          told (written-several (namesIn s t n) (namesIn s t (mapNames k)) (n .count) (names-count s t n) p entry mid
+          exit r C z x)
 
 -- the statements of a `let`, read back from where they were written
 pub let-stored : (s t : List ℕ) (k : Known) → Sound k → (f : Letting) → LetFits k (f .count)

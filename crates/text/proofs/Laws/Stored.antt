@@ -17,9 +17,9 @@ use Rattle.text.specs.declared.routine.Routine.{Routine}
 use Rattle.text.specs.State.{start}
 use Rattle.text.specs.Names.{listed, namesIn}
 use Rattle.text.specs.Routine.{nothing}
-use Rattle.text.specs.Limits.{mostMaps, mostStatements, mostNumbers}
-use Rattle.text.specs.Known.{Arrays, arrays, Kept, kept, Sized, Fits, statementSlot, mapSlot, statementAfter}
-use Rattle.text.specs.Known.{mapAfter, tableAfter, arraysAfter, letStatements, after, stateIn, blank}
+use Rattle.text.specs.Limits.{mostStatements, mostNumbers}
+use Rattle.text.specs.Known.{Arrays, arrays, Kept, kept, Sized, Fits, statementSlot, statementAfter}
+use Rattle.text.specs.Known.{mapsAfter, tableAfter, arraysAfter, letStatements, after, stateIn, blank}
 use Rattle.text.specs.Lets.{setAll}
 use Rattle.text.proofs.Laws.Lets.{all-length}
 use Rattle.text.proofs.Laws.Kept.{table-length}
@@ -36,51 +36,47 @@ letAfter s t k (Input x) ss = ss
 letAfter s t k (Stated x st) ss = ss
 letAfter s t k (Let x f) ss = setAll ss (k .origin + k .masked) (letStatements s t k f)
 
-module _ (s t : List ℕ) (a : Arrays) (k : Known) (g : AffineMap) (i j : ℕ) (d : Statement) (e : AffineMap) where
+module _ (s t : List ℕ) (a : Arrays) (k : Known) (g : AffineMap) (i : ℕ) (d : Statement) where
   -- the arrays behind the stores
   stored : Put → Arrays
   stored p =
-      arrays (set (a .maps) j (mapAfter p g (getD (a .maps) j e)))
+      arrays (mapsAfter (a .maps) k p g)
       (letAfter s t k p (set (a .statements) i (statementAfter p (getD (a .statements) i d))))
-
-  same-maps : set (a .maps) j (getD (a .maps) j e) ≡ a .maps
-  same-maps = set-getD (a .maps) j e
 
   same-statements : set (a .statements) i (getD (a .statements) i d) ≡ a .statements
   same-statements = set-getD (a .statements) i d
 
   -- they are those that the record leads to
-  stores : (p : Put) → Fits k p → i ≡ statementSlot k → j ≡ mapSlot k → stored p ≡ arraysAfter s t a k p g
+  stores : (p : Put) → Fits k p → i ≡ statementSlot k → stored p ≡ arraysAfter s t a k p g
   unfolding stored
-  stores Nothing f u v = λ n. arrays (same-maps n) (same-statements n)
-  stores (Map x) f u v =
-      let at = v ∙ slot (k .mapped) mostMaps f in
-      λ n. arrays (set (a .maps) (at n) g) (same-statements n)
-  stores (Input x) f u v = λ n. arrays (same-maps n) (same-statements n)
-  stores (Stated x st) f u v =
+  stores Nothing f u = λ n. arrays (a .maps) (same-statements n)
+  stores (Map x) f u = λ n. arrays (set (a .maps) (k .mapped) g) (same-statements n)
+  stores (Input x) f u = λ n. arrays (a .maps) (same-statements n)
+  stores (Stated x st) f u =
       let at = u ∙ slot (k .origin + k .masked) mostStatements f in
-      λ n. arrays (same-maps n) (set (a .statements) (at n) st)
-  stores (Let x l) f u v = λ n. arrays (same-maps n)
+      λ n. arrays (a .maps) (set (a .statements) (at n) st)
+  stores (Let x l) f u = λ n. arrays (a .maps)
       (setAll (same-statements n) (k .origin + k .masked) (letStatements s t k l))
 
 module _ (s : List ℕ) (h : Kept) (r : Step) where
   -- the loop's stores lead to what the step says
-  pub kept-after : Fits (h .known) (r .put) → (i j : ℕ) (d : Statement) (e : AffineMap) {t : List ℕ} {st : Statement}
-      {f : AffineMap} {ss : List Statement} → i ≡ statementSlot (h .known) → j ≡ mapSlot (h .known)
+  pub kept-after : Fits (h .known) (r .put) → (i : ℕ) (d : Statement) {t : List ℕ} {st : Statement}
+      {fs : List AffineMap} {ss : List Statement} → i ≡ statementSlot (h .known)
       → st ≡ statementAfter (r .put) (getD (h .arrays .statements) i d)
-      → f ≡ mapAfter (r .put) (r .map) (getD (h .arrays .maps) j e)
+      → fs ≡ mapsAfter (h .arrays .maps) (h .known) (r .put) (r .map)
       → t ≡ tableAfter (h .names) (h .known) (r .put)
       → ss ≡ letAfter s (h .names) (h .known) (r .put) (set (h .arrays .statements) i st)
-      → kept t (r .known) (arrays (set (h .arrays .maps) j f) ss) ≡ after s h r
+      → kept t (r .known) (arrays fs ss) ≡ after s h r
   unfolding after stored
-  kept-after F i j d e u v p q w m =
+  kept-after F i d u p q w m =
       (λ n. kept (w n) (r .known)
-      (arrays (set (h .arrays .maps) j (q n))
+      (arrays (q n)
       ((m ∙ ap (λ (y : Statement). letAfter s (h .names) (h .known) (r .put) (set (h .arrays .statements) i y)) p) n)))
       ∙ ap (kept (tableAfter (h .names) (h .known) (r .put)) (r .known))
-      (stores s (h .names) (h .arrays) (h .known) (r .map) i j d e (r .put) F u v)
+      (stores s (h .names) (h .arrays) (h .known) (r .map) i d (r .put) F u)
 
-  maps-size : (p : Put) → length (arraysAfter s (h .names) (h .arrays) (h .known) p (r .map) .maps) ≡ length (h .arrays .maps)
+  maps-size : (p : Put)
+      → length (arraysAfter s (h .names) (h .arrays) (h .known) p (r .map) .maps) ≡ length (h .arrays .maps)
   maps-size Nothing = refl
   maps-size (Map x) = length-set (h .arrays .maps) (h .known .mapped) (r .map)
   maps-size (Input x) = refl

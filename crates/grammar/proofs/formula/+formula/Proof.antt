@@ -142,7 +142,8 @@ formula-returns : (t : ℕ) → formula-lts.Need-returns (claims t) (formula-at 
 formula-returns t c = let s = c .before .before .before .before .before .before in
     let d = c .before .before .before in
     unknown-read (s .args .f .now) (s .args .at) (d .before .find-mark .result) (s .pre .1)
-    (d .before .find-mark .ensures) (sym (d .operation-at .ensures) ∙ c .before .enum-told2 .given .1) (c .part-read .ensures)
+    (d .before .find-mark .ensures) (sym (d .operation-at .ensures) ∙ c .before .enum-told2 .given .1)
+    (c .part-read .ensures)
 
 formula-enum-told-3 : (t : ℕ) → formula-lts.Need-enum-told-3 (claims t) (formula-at t) formula.Post
 formula-enum-told-3 t c = search needs
@@ -154,7 +155,8 @@ formula-returns-2 : (t : ℕ) → formula-lts.Need-returns-2 (claims t) (formula
 formula-returns-2 t c = let s = c .before .before .before .before .before .before in
     let d = c .before .before .before in
     operand-read (s .args .f .now) (s .args .at) (d .before .find-mark .result) (s .pre .1)
-    (d .before .find-mark .ensures) (sym (d .operation-at .ensures) ∙ c .before .enum-told3 .given .1) (c .operand .ensures)
+    (d .before .find-mark .ensures) (sym (d .operation-at .ensures) ∙ c .before .enum-told3 .given .1)
+    (c .operand .ensures)
 
 formula-passed-requires : (t : ℕ) → formula-lts.Need-passed-requires (claims t) (formula-at t) formula.Post
 formula-passed-requires t c κs = first-place (first-is t c) .within

@@ -2,25 +2,25 @@
 use borrow.Author.Needs.{needs}
 use native.Mathlib.Omega.{arith}
 use Prim.Native.Nat.{ℕ, suc, _≤_, _+_, _-_}
-use mathlib.Core.Path.{_≡_, refl, ap, sym, _∙_}
+use mathlib.Core.Path.{_≡_, ap, sym, _∙_}
 use mathlib.Core.List.{List}
 use lib.ListN.{length, set, length-set}
 use Rattle.text.specs.declared.types.Statement.{Statement}
-use Rattle.text.specs.declared.types.Op.{Op}
 use Rattle.text.specs.Limits.{mostStatements}
-use Rattle.text.specs.Lets.{setAll}
-use Rattle.text.specs.Decoded.{opAt, opsFrom}
+use Rattle.text.specs.Compiled.{opAt}
+use Rattle.text.specs.Lets.{setAll, opsFrom}
 use Rattle.text.proofs.letting.put_statements.Statement.{statement}
 use Rattle.text.proofs.letting.put_statements.Tie as tie
 
 -- one statement more
-next-set : (ss : List Statement) (codes : List ℕ) (at n i m : ℕ) (o : Op) → o ≡ opAt codes i
+next-set : (ss : List Statement) (codes : List ℕ) (at n i m : ℕ) (st : Statement)
+    → st ≡ record { op = opAt codes i; line = n }
     → setAll ss (at + i) (opsFrom codes n i (suc m))
-    ≡ setAll (set ss (at + i) (record { op = o; line = n })) (at + (i + 1)) (opsFrom codes n (i + 1) m)
+    ≡ setAll (set ss (at + i) st) (at + (i + 1)) (opsFrom codes n (i + 1) m)
 unfolding setAll opsFrom
-next-set ss codes at n i m o e =
+next-set ss codes at n i m st e =
     let a : at + i + 1 ≡ at + (i + 1) = omega arith in
-    λ j. setAll (set ss (at + i) (record { op = sym e j; line = n })) (a j) (opsFrom codes n (i + 1) m)
+    λ j. setAll (set ss (at + i) (sym e j)) (a j) (opsFrom codes n (i + 1) m)
 
 -- none is left
 none-left : (ss : List Statement) (codes : List ℕ) (at n i m : ℕ) → m ≡ 0 → setAll ss at (opsFrom codes n i m) ≡ ss
@@ -45,8 +45,8 @@ loop-holds c =
       λ i. setAll (a .statements) (from i) (opsFrom (a .codes .now) (a .line) 0 (all i)),
     )
 
-op-at-requires : tie.Need-op-at-requires Inv-loop μ-loop
-op-at-requires c κs = search needs
+statement-at-requires : tie.Need-statement-at-requires Inv-loop μ-loop
+statement-at-requires c κs = search needs
 
 add-next : tie.Need-add-next Inv-loop μ-loop
 add-next c = search needs
@@ -71,7 +71,7 @@ loop-again c =
     let rest : a .count - L .i ≡ suc m = omega arith in (
       omega arith,
       length-set (L .next) (a .at + L .i) _ ∙ L .inv .1,
-      sym (next-set (L .next) (a .codes .now) (a .at) (a .line) (L .i) m _ (c .op-at .ensures))
+      sym (next-set (L .next) (a .codes .now) (a .at) (a .line) (L .i) m _ (c .statement-at .ensures))
           ∙ ap (λ (n : ℕ). setAll (L .next) (a .at + L .i) (opsFrom (a .codes .now) (a .line) (L .i) n)) (sym rest)
           ∙ L .inv .2,
     )
@@ -90,7 +90,7 @@ put-statements-spec =
     Inv-loop
     μ-loop
     loop-holds
-    op-at-requires
+    statement-at-requires
     add-next
     mul-next
     array-set-from-next

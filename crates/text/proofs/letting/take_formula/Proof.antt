@@ -1,6 +1,6 @@
 -- The formula is read, and does not nest too deep. Assumes nothing.
 use mathlib.Core.Option.{Option}
-use mathlib.Core.Path.{refl, ap, subst}
+use mathlib.Core.Path.{ap, subst}
 use borrow.Author.Needs.{needs}
 use Rattle.grammar.specs.Formula.{Formula}
 use Rattle.grammar.specs.Line.{piecesIn, nameIn}
@@ -70,7 +70,8 @@ returns-3 c =
     let r = c .before .before .line-formula in
     let o = formulaOf (piecesIn s (d .args .l)) in
     took-bad s (d .args .t .now) (d .args .k) (d .pre .1) (d .args .n) (d .args .stands)
-    (ap (letIn (nameIn s (d .args .x))) (unmeasured (r .result) o (r .ensures) (c .before .if1 .left))) (c .make2 .ensures)
+    (ap (letIn (nameIn s (d .args .x))) (unmeasured (r .result) o (r .ensures) (c .before .if1 .left)))
+    (c .make2 .ensures)
 
 pub take-formula-spec : {M : Type 1} → statement M
 take-formula-spec =

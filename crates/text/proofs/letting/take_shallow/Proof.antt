@@ -10,7 +10,7 @@ use Rattle.text.specs.Names.{namesIn}
 use Rattle.text.specs.Scope.{given}
 use Rattle.text.specs.Taken.{stepOf}
 use Rattle.text.proofs.Laws.Taking.{no-faults}
-use Rattle.text.proofs.Laws.LetWriting.{shallow-fits, shallow-few}
+use Rattle.text.proofs.Laws.LetWriting.{shallow-fits, shallow-count}
 use Rattle.text.proofs.Laws.LetTaking.{let-fault, let-fits, let-grown}
 use Rattle.text.proofs.letting.take_shallow.Statement.{statement}
 use Rattle.text.proofs.letting.take_shallow.Tie as tie
@@ -33,7 +33,7 @@ add-many c = search needs
 add-many-2 : tie.Need-add-many-2
 add-many-2 c =
     let d = c .before .before .before .before .before .before .before in
-    omega (arith, d .pre .1 .statements, shallow-few (d .args .s .now) (d .args .f) (d .pre .0))
+    omega (arith, d .pre .1 .statements, shallow-count (d .args .s .now) (d .args .f) (d .pre .0))
 
 first-fault-requires : tie.Need-first-fault-requires
 first-fault-requires c κs = search needs
@@ -61,8 +61,8 @@ with-statements-requires c κs =
     let t = d .args .t .now in
     let set = c .before .before .before .before .before .block-names in
     let W = c .before .before .before .before .before .before .write-let in
-    let F = let-fits s t (d .args .k) (d .pre .1) (d .args .stands) (d .args .x) (d .args .f) (d .pre .0) (W .result) _ _
-    (W .ensures) (c .before .first-fault .ensures)
+    let F = let-fits s t (d .args .k) (d .pre .1) (d .args .stands) (d .args .x) (d .args .f) (d .pre .0) (W .result)
+    _ _ (W .ensures) (c .before .first-fault .ensures)
     (c .before .before .before .before .is-given .ensures
     ∙ ap (λ (n : Names). given (nameIn s (d .args .x)) (namesIn s t n)) (set .ensures .1)) refl (c .if1 .left) in
     (d .pre .1, omega (arith, F .1))
@@ -85,7 +85,8 @@ returns-2 c =
     (c .before .before .before .before .before .before .is-given .ensures
     ∙ ap (λ (n : Names). given (nameIn s (d .args .x)) (namesIn s t n)) (set .ensures .1)) refl z
     (d .pre .2 (free .0))
-    (c .make2 .ensures ∙ ap (λ (j : Known). stepOf 0 j (Let (d .args .x) (d .args .f))) (c .before .with-statements .ensures))
+    (c .make2 .ensures
+    ∙ ap (λ (j : Known). stepOf 0 j (Let (d .args .x) (d .args .f))) (c .before .with-statements .ensures))
 
 pub take-shallow-spec : {M : Type 1} → statement M
 take-shallow-spec =

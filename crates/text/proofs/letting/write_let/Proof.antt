@@ -42,7 +42,8 @@ returns-2 c =
     let n = c .before .before .before .before .before .block-names in
     let r = c .before .before .compile in
     let-several (d .args .s .now) (d .args .t .now) (d .args .k) (d .args .f) (n .result) (n .ensures .1) _
-    (c .before .before .before .before .part .ensures) (d .args .out .now) _ _ (r .result) (r .ensures) (c .if1 .left) refl
+    (c .before .before .before .before .part .ensures) (d .args .out .now) _ _ (r .result) (r .ensures)
+    (c .if1 .left) refl
 
 pub write-let-spec : {M : Type 1} → statement M
 write-let-spec =

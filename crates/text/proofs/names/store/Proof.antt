@@ -108,7 +108,8 @@ returns-5 c =
     let k = d .args .k in
     let p = c .before .before .before .before .p4 .given in
     c .put-let .ensures
-    ∙ ap (λ (at : ℕ). putLet (d .args .t .now) at (p .0 .0) (p .0 .1 .0 .count)) (c .before .before .name-slot2 .ensures)
+    ∙ ap (λ (at : ℕ). putLet (d .args .t .now) at (p .0 .0) (p .0 .1 .0 .count))
+    (c .before .before .name-slot2 .ensures)
     ∙ ap (tableAfter (d .args .t .now) k) (sym (p .1))
 
 pub store-spec : {M : Type 1} → statement M

@@ -153,45 +153,32 @@ store-let-requires c κs =
 let-told : (c : tie.At-match2-came Inv-loop μ-loop)
     → let e = c .before .before .before .before .before .before .before .before .before .before .before .before in
     let s = e .before .before .before .before .before .before .before .args .s .now in
-    c .match2 .statements ≡ letAfter s (e .loop .table) (e .loop .k) (c .before .before .before .before .before .before .take-line .result .put)
+    let p = c .before .before .before .before .before .before .take-line .result .put in
+    c .match2 .statements ≡ letAfter s (e .loop .table) (e .loop .k) p
     (set (e .loop .statements) (c .before .before .before .statement-slot .result) (c .before .statement-after .result))
 let-told c =
     let e = c .before .before .before .before .before .before .before .before .before .before .before .before in
     let s = e .before .before .before .before .before .before .before .args .s .now in
     let L = e .loop in
     let p = c .before .before .before .before .before .before .take-line .result .put in
-    let ss = set (L .statements) (c .before .before .before .statement-slot .result) (c .before .statement-after .result) in
+    let ss = set (L .statements) (c .before .before .before .statement-slot .result)
+    (c .before .statement-after .result) in
     ⊎-elim
     (λ w. w .5 ∙ w .4 .ensures ∙ ap (λ (q : Put). letAfter s (L .table) (L .k) q ss) (sym (w .1 .given .1)))
     (λ w. w .1 ∙ not-let s (L .table) (L .k) ss p (w .0 .keys2)) (c .match2 .came)
 
-map-slot-requires : tie.Need-map-slot-requires Inv-loop μ-loop
-map-slot-requires c κs = search needs
-
-mul-f : tie.Need-mul-f Inv-loop μ-loop
-mul-f c = search needs
-
-array-copy-out-f : tie.Need-array-copy-out-f Inv-loop μ-loop
-array-copy-out-f c = search needs
-
-map-after-requires : tie.Need-map-after-requires Inv-loop μ-loop
-map-after-requires c κs = search needs
-
-mul-maps : tie.Need-mul-maps Inv-loop μ-loop
-mul-maps c = search needs
-
-array-set-from-maps : tie.Need-array-set-from-maps Inv-loop μ-loop
-array-set-from-maps c = search needs
+maps-after-requires : tie.Need-maps-after-requires Inv-loop μ-loop
+maps-after-requires c κs = c .before .before .before .before .before .before .before .take-line .ensures .fits
 
 store-requires : tie.Need-store-requires Inv-loop μ-loop
 store-requires c κs =
-    let b = c .before .before .before .before .before .before .before .before .before .before .before in
+    let b = c .before .before .before .before .before .before .before .before .before in
     (b .before .before .before .before .before .before .loop .inv .3, b .take-line .ensures .fits)
 
 loop-less : tie.Need-loop-less Inv-loop μ-loop
 loop-less c =
-    let b8 = c .before .before .before .before .before .before .before .before in
-    let b = b8 .before .before .before .before .before .before .before .before in
+    let b6 = c .before .before .before .before .before .before in
+    let b = b6 .before .before .before .before .before .before .before .before in
     let e = b .before .before .before in
     let s = e .before .before .before .before .before .before .before .args .s .now in
     let L = e .loop in
@@ -202,31 +189,29 @@ loop-less c =
 loop-again : tie.Need-loop-again Inv-loop μ-loop
 loop-again c =
     let b3 = c .before .before .before in
-    let b8 = c .before .before .before .before .before .before .before .before in
-    let b = b8 .before .before .before .before .before .before .before .before in
+    let b6 = c .before .before .before .before .before .before in
+    let b = b6 .before .before .before .before .before .before .before .before in
     let e = b .before .before .before in
     let s = e .before .before .before .before .before .before .before .args .s .now in
     let L = e .loop in
     let h = held e in
     let a = sym (b .l .given .1) ∙ b .before .before .look .ensures in
     let A = look-line s (L .c) _ _ a in
-    let m = c .before .before .before .before .before .before in
-    let i = b8 .before .before .statement-slot in
-    let j = m .map-slot in
-    let T = b8 .before .before .before .before .before .take-line in
+    let i = b6 .before .before .statement-slot in
+    let T = b6 .before .before .before .before .before .take-line in
     let told = T .ensures .outcome (arrays (L .maps) (L .statements)) (L .inv .4) in
     let at = ap (λ (n : Cursor). n .at) (A .2) in
     let line = ap (λ (n : Cursor). n .line) (A .2) in
     let ge = end-ge s (L .c .at) in
-    let same = kept-after s h (T .result) (T .ensures .fits) (i .result) (j .result) _ _
-    (i .ensures .1) (j .ensures .1) (b8 .statement-after .ensures) (b3 .map-after .ensures)
-    (c .before .store .ensures) (let-told (m .before)) in (
+    let same = kept-after s h (T .result) (T .ensures .fits) (i .result) _ (i .ensures .1)
+    (b6 .statement-after .ensures) (b3 .maps-after .ensures) (c .before .store .ensures)
+    (let-told (b3 .before .before)) in (
       omega (arith, at, A .0),
       omega (arith, at, line, ge, L .inv .1),
       L .inv .2,
       T .ensures .sound,
       subst (λ (q : Kept). Sized q) (sym same) (sized-after s h (T .result) (L .inv .4)),
-      line-taken s h (L .c) (L .inv .5) _ _ a (T .result) told (b8 .before .before .before .if1 .left) same,
+      line-taken s h (L .c) (L .inv .5) _ _ a (T .result) told (b6 .before .before .before .if1 .left) same,
     )
 
 enum-known-l-2 : tie.Need-enum-known-l-2 Inv-loop μ-loop
@@ -294,12 +279,7 @@ read-lines-spec =
     array-set-from-statements
     enum-known-formula
     store-let-requires
-    map-slot-requires
-    mul-f
-    array-copy-out-f
-    map-after-requires
-    mul-maps
-    array-set-from-maps
+    maps-after-requires
     store-requires
     loop-less
     loop-again

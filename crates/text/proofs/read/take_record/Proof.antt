@@ -40,7 +40,8 @@ returns c =
     record {
       outcome = λ a z.
           let h = kept t (d .args .k) a in
-          record-stops (stateIn s h) (d .args .n) (d .args .w) o (T .result .refusal) (stateIn s (after s h (T .result)))
+          record-stops (stateIn s h) (d .args .n) (d .args .w) o (T .result .refusal)
+          (stateIn s (after s h (T .result)))
           (c .if1 .taken)
           (T .ensures .outcome a z
           ∙ (λ i. takes (stateIn s h) (d .args .n) (b3 .may-stand .ensures i) (b4 .«record» .ensures i)));

@@ -23,11 +23,13 @@ returns c = λ s t.
     let q = c .before .first-fault .ensures in (
       λ ps n.
           took-set s t (a .k) K n (a .stands) origin refl q (a .k) refl K
-          (λ x z. record { repeats = refl; unknown = refl; exceeds = refl; miscounts = refl; shallow = refl }) (λ x. refl)
+          (λ x z. record { repeats = refl; unknown = refl; exceeds = refl; miscounts = refl; shallow = refl })
+          (λ x. refl)
           (c .make .ensures),
       λ ps n.
           took-set s t (a .k) K n (a .stands) masked refl q (a .k) refl K
-          (λ x z. record { repeats = refl; unknown = refl; exceeds = refl; miscounts = refl; shallow = refl }) (λ x. refl)
+          (λ x z. record { repeats = refl; unknown = refl; exceeds = refl; miscounts = refl; shallow = refl })
+          (λ x. refl)
           (c .make .ensures),
     )
 
