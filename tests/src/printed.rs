@@ -1,18 +1,23 @@
-//! What the program `vectors` must print: the published tables, coefficients, the lent buffers,
-//! and for each text its line, what run answers, and what judge leaves in its buffers.
+//! What the program `vectors` must print: the published tables, coefficients, and for each text its
+//! line, what run answers, and what judge leaves in its buffers; for the first texts more.
 
 use crate::batch;
 use crate::field::power;
 use crate::judge::{judge, judge_lent, Judgement};
 use crate::limits::{MOST_VARIABLES, WORK};
 use crate::maps::{self, FIPS, SQUARING};
-use crate::reading::read;
+use crate::reading::{read, record_in};
 use crate::texts::draft::{map_line, Draft};
+use crate::texts::formulas::nested;
+use crate::texts::lets::WAYS;
 
 /// What every lent byte is before a text is judged.
 const BEFORE: u8 = 0xff;
 
-/// More lines than the text of the S-box has.
+/// How many texts, from the first on, are handed out record by record.
+const HANDED: usize = 2;
+
+/// More lines than each of them has.
 const ENOUGH: usize = 40;
 
 /// The bytes that the variables get, in order.
@@ -36,6 +41,23 @@ pub fn sbox_text() -> Vec<u8> {
     draft.text()
 }
 
+/// A text whose lines are refused by 3, 4, 5 and 13, with taken ones between them: formulas nested 8
+/// and 9 deep on each way in, whole and broken, and a last line without its line feed.
+pub fn handed_text() -> Vec<u8> {
+    let mut draft = Draft::of("shares 1");
+    draft.add(&map_line("f", &FIPS));
+    draft.add_lines("input x\norigin\nlet y x\nlet z xor(x,y");
+    for (way, before, behind) in WAYS {
+        for (depth, end) in [(8, ""), (9, ""), (8, ")"), (9, ")"), (9, ")!")] {
+            let formula = nested(before, "x", behind, depth);
+            draft.add(&format!("let {way}{depth} {formula}{end}"));
+        }
+        draft.add(&format!("set {way} x"));
+    }
+    draft.add_lines("result y\nmasked\nlet y.0 xor(x.0,mul(#01,#00))\noutput y.0");
+    draft.unended()
+}
+
 /// All that is printed before the texts.
 pub fn tables() -> String {
     let nine = [&[FIPS.constant], &FIPS.columns[..]].concat();
@@ -46,45 +68,57 @@ pub fn tables() -> String {
     lines += &map("square_map", &SQUARING.coefficients());
     lines += &list_line("eight_bytes", &nine[..8]);
     lines += &list_line("nine_bytes", &nine);
-    lines += &list_line("ten_bytes", &ten);
-    lines += &sbox_rows("run");
-    for (name, lent) in [
-        ("least", [WORK, WORK, MOST_VARIABLES]),
-        ("short_list", [WORK, WORK, MOST_VARIABLES - 1]),
-        ("short_left", [WORK - 1, WORK, MOST_VARIABLES]),
-        ("short_right", [WORK, WORK - 1, MOST_VARIABLES]),
-    ] {
-        lines += &kept_line(name, &sbox_text(), lent);
-    }
-    lines + &records(&sbox_text())
+    lines + &list_line("ten_bytes", &ten)
 }
 
-/// The number of each line of an accepted text, with its place and length, then its end.
+/// What is printed for the text of this number.
+pub fn lines(at: usize, name: &str, text: &[u8]) -> String {
+    let lent = [WORK + 1, WORK + 1, MOST_VARIABLES + 1];
+    let mut lines = String::new();
+    if at == 0 {
+        lines += &sbox_rows("run");
+        lines += &least_lists(text);
+    }
+    if at < HANDED {
+        lines += &records(text);
+    }
+    lines += &format!("{name}\t{}", judge(text).line());
+    lines += &run_line(name, text);
+    lines + &kept_line(name, text, lent)
+}
+
+/// The answers with each buffer at its least length, and one below.
+fn least_lists(text: &[u8]) -> String {
+    let least = [WORK, WORK, MOST_VARIABLES];
+    let short = |at: usize| {
+        let mut lent = least;
+        lent[at] -= 1;
+        lent
+    };
+    [
+        ("least", least),
+        ("short_list", short(2)),
+        ("short_left", short(0)),
+        ("short_right", short(1)),
+    ]
+    .map(|(name, lent)| kept_line(name, text, lent))
+    .concat()
+}
+
+/// What is handed out at each place of a text: a line's number with its place and length, or with
+/// the number that refuses it; then the end.
 fn records(text: &[u8]) -> String {
     let (mut lines, mut from) = (vec![], 0);
-    for (at, byte) in text.iter().enumerate() {
-        if *byte == b'\n' {
-            lines.push(format!(
-                "record\t{}\t{from}\t{}\n",
-                lines.len() + 1,
-                at - from
-            ));
-            from = at + 1;
-        }
+    for bytes in text.split_inclusive(|byte| *byte == b'\n') {
+        let number = lines.len() + 1;
+        lines.push(match record_in(bytes) {
+            Ok(_) => format!("record\t{number}\t{from}\t{}\n", bytes.len() - 1),
+            Err(refusal) => format!("refused\t{number}\t{refusal}\n"),
+        });
+        from += bytes.len();
     }
     lines.resize(ENOUGH, "end\n".to_string());
     lines.concat()
-}
-
-/// What is printed for a text.
-pub fn lines(name: &str, text: &[u8]) -> String {
-    let lent = [WORK + 1, WORK + 1, MOST_VARIABLES + 1];
-    let line = judge(text).line();
-    format!(
-        "{name}\t{line}{}{}",
-        run_line(name, text),
-        kept_line(name, text, lent)
-    )
 }
 
 /// The S-box of FIPS 197, a row for each high digit.

@@ -50,6 +50,18 @@ pub fn read(text: &[u8]) -> Result<Routine, Refusal> {
     Ok(reading.routine)
 }
 
+/// The record that a line holds, or the lowest of 3, 4, 5 and 13 that refuses it.
+pub fn record_in(bytes: &[u8]) -> Result<Record<'_>, u64> {
+    let ended = bytes.strip_suffix(b"\n");
+    let content = ended.unwrap_or(bytes);
+    ask(content.iter().all(|byte| is_allowed(*byte)), 3)?;
+    ask(ended.is_some(), 4)?;
+    let record = record_of(content).ok_or(5u64)?;
+    let deep = matches!(&record, Record::Let(_, formula) if formula.depth > MOST_DEPTH);
+    ask(!deep, 13)?;
+    Ok(record)
+}
+
 /// The number of a refusal unless the condition holds.
 fn ask(condition: bool, number: u64) -> Result<(), u64> {
     condition.then_some(()).ok_or(number)
@@ -69,13 +81,7 @@ impl Reading {
 
     /// Takes one line, or tells the lowest number that refuses it.
     fn take_line(&mut self, bytes: &[u8], line: u64) -> Result<(), u64> {
-        let ended = bytes.strip_suffix(b"\n");
-        let content = ended.unwrap_or(bytes);
-        ask(content.iter().all(|byte| is_allowed(*byte)), 3)?;
-        ask(ended.is_some(), 4)?;
-        let record = record_of(content).ok_or(5u64)?;
-        let deep = matches!(&record, Record::Let(_, formula) if formula.depth > MOST_DEPTH);
-        ask(!deep, 13)?;
+        let record = record_in(bytes)?;
         self.stage = self.stage_after(&record).ok_or(6u64)?;
         match record {
             Record::Shares(count) => self.routine.shares = count,

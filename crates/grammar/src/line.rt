@@ -9,7 +9,7 @@ use tokens::token::Number;
 use tokens::token::TermForm;
 ghost use mathlib.Core.Path.{_≡_};
 ghost use Prim.Native.Nat.{_+_, _≤_};
-ghost use lib.ListN.{length};
+ghost use lib.ListN.{length, take, drop};
 ghost use Rattle.tokens.specs.Split.{SpanIs};
 ghost use Rattle.tokens.specs.Token.{readHex, readCount, readName, readPlain, readTerm};
 ghost use Rattle.tokens.specs.Answer.{numberRead};
@@ -79,15 +79,7 @@ pub fn name_field(s: &[u8], l: Line, k: usize) -> NameRead
     ensures { λ r. ⌜ nameAt (now (s .entry)) r ≡ readName (fieldIn (now (s .entry)) l k) ⌝ }
 {
     let f = field(s, l, k);
-    let at = f.at;
-    match token::name(split::part(s, at, f.len)) {
-        NameForm::Name(n, p) => NameRead::Name(NameRef {
-            at,
-            len: n,
-            part: p,
-        }),
-        NameForm::Bad => NameRead::Bad,
-    }
+    name_at(s, f.at, f.len)
 }
 
 // A name without a dot part in field k.
@@ -113,8 +105,28 @@ pub fn term_field(s: &[u8], l: Line, k: usize) -> TermRead
     ensures { λ r. ⌜ termAt (now (s .entry)) r ≡ readTerm (fieldIn (now (s .entry)) l k) ⌝ }
 {
     let f = field(s, l, k);
-    let at = f.at;
-    match token::term(split::part(s, at, f.len)) {
+    term_at(s, f.at, f.len)
+}
+
+// The name of the len bytes at a place of the text.
+pub fn name_at(s: &[u8], at: usize, len: usize) -> NameRead
+    ensures { λ r. ⌜ nameAt (now (s .entry)) r ≡ readName (take len (drop at (now (s .entry)))) ⌝ }
+{
+    match token::name(split::part(s, at, len)) {
+        NameForm::Name(n, p) => NameRead::Name(NameRef {
+            at,
+            len: n,
+            part: p,
+        }),
+        NameForm::Bad => NameRead::Bad,
+    }
+}
+
+// The operand of the len bytes at a place of the text.
+pub fn term_at(s: &[u8], at: usize, len: usize) -> TermRead
+    ensures { λ r. ⌜ termAt (now (s .entry)) r ≡ readTerm (take len (drop at (now (s .entry)))) ⌝ }
+{
+    match token::term(split::part(s, at, len)) {
         TermForm::Name(n, p) => TermRead::Name(NameRef {
             at,
             len: n,

@@ -1,5 +1,6 @@
 // What the count and the difference decide of a routine.
 use crate::idle::idle;
+use rules::types::Operand;
 use search::search::search;
 use survey::difference::form_difference;
 use survey::difference::outputs_size;
@@ -9,7 +10,6 @@ use survey::survey::masked_scope;
 use survey::survey::origin_scope;
 use survey::survey::survey;
 use text::routine::Routine;
-use text::types::Operand;
 use values::raw::operand_size;
 use values::shelf::Shelf;
 use values::source::place;

@@ -9,7 +9,7 @@ use native.Mathlib.Numerals.{add-one}
 use lib.ListN.{length, take, drop, getD, set}
 use lib.Seq.{paste, paste-suc, sets-eq, take-paste, drop-paste, length-paste, drop-drop, take-all}
 use borrow.Author.Tests.{le-leb, lt-leb}
-use Rattle.text.specs.Read.{readText}
+use Rattle.rules.specs.Read.{readText}
 use Rattle.verdict.specs.declared.report.Report.{Report}
 use Rattle.verdict.specs.declared.report.RunReport.{RunReport}
 use Rattle.verdict.specs.declared.report.MapReport.{MapReport}

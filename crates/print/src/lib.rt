@@ -8,7 +8,7 @@ ghost use mathlib.Core.Path.{_≡_};
 ghost use Prim.Native.Nat.{suc, _-_, _≤_};
 ghost use mathlib.Core.List.{_∷_, []};
 ghost use lib.ListN.{length};
-ghost use Rattle.text.specs.Read.{readText};
+ghost use Rattle.rules.specs.Read.{readText};
 ghost use Rattle.verdict.specs.Judge.{judgeReading};
 ghost use Rattle.verdict.specs.Print.{hexes, printed};
 ghost use Rattle.print.specs.Line.{headOf, lineOf, listedCount, Put, Formed};

@@ -8,10 +8,10 @@ use mathlib.Core.Option.{none, some}
 use lib.Dec.{ltb}
 use lib.ListN.{length, take}
 use Rattle.text.specs.declared.routine.Routine as code
-use Rattle.text.specs.Limits.{mostVariables}
+use Rattle.rules.specs.Limits.{mostVariables}
 use Rattle.text.specs.Routine.{mapsOf, routineOf, Counted}
-use Rattle.text.specs.Formed.{Formed}
-use Rattle.text.specs.Ranged.{Ranged}
+use Rattle.rules.specs.Formed.{Formed}
+use Rattle.rules.specs.Ranged.{Ranged}
 use Rattle.verdict.specs.Instances.{symbolic}
 use Rattle.verdict.specs.Count.{lastStep, unknownLine}
 use Rattle.values.specs.declared.shelf.Shelf.{Shelf}

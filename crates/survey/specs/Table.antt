@@ -5,7 +5,7 @@ use Prim.Native.Nat.{ℕ, _<_}
 use mathlib.Core.List.{List, []}
 use lib.ListN.{length, getD}
 use Rattle.field.specs.Maps.{coefficientsOf}
-use Rattle.text.specs.declared.types.AffineMap.{AffineMap}
+use Rattle.rules.specs.declared.types.AffineMap.{AffineMap}
 use Rattle.verdict.specs.Meaning.{mapAt}
 
 -- the coefficients of the maps below k

@@ -8,10 +8,10 @@ use mathlib.Core.Option.{Option, none, some}
 use lib.Dec.{ltb}
 use lib.ListN.{length, take, drop, getD}
 use Rattle.poly.specs.Poly.{Poly}
-use Rattle.text.specs.declared.types.Operand.the-variants.{Place}
-use Rattle.text.specs.declared.types.Op.the-variants.{Set}
-use Rattle.text.specs.declared.types.Statement.{Statement}
-use Rattle.text.specs.declared.types.AffineMap.{AffineMap}
+use Rattle.rules.specs.declared.types.Operand.the-variants.{Place}
+use Rattle.rules.specs.declared.types.Op.the-variants.{Set}
+use Rattle.rules.specs.declared.types.Statement.{Statement}
+use Rattle.rules.specs.declared.types.AffineMap.{AffineMap}
 use Rattle.verdict.specs.Meaning.{given, values}
 use Rattle.verdict.specs.Instances.{polynomials}
 use Rattle.values.specs.declared.shelf.Shelf.{Shelf}

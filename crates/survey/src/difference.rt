@@ -1,6 +1,6 @@
 // The difference at the output line: its raw size, and its terms.
 use buffer::add::add_terms;
-use text::types::Operand;
+use rules::types::Operand;
 use values::load::load;
 use values::raw::operand_size;
 use values::shelf::Shelf;
@@ -22,7 +22,7 @@ ghost use Rattle.values.specs.Raw.{SizeAsked};
 
 // Lays the values at the first `named` places behind the first `from` terms of `right`; answers how
 // many terms there are now.
-pub fn load_outputs(
+pub(crate) fn load_outputs(
     left: &[u8],
     outputs: [usize; 8],
     named: usize,

@@ -58,7 +58,20 @@ fn walk_origin(
     let s = origin_scope(r);
     let d = empty();
     let w = r.variables + 1;
-    walk_block(lists, constants, r, 0, r.origin, s, d, left, right, w)
+    walk_block(
+        MODULUS,
+        lists,
+        constants,
+        r,
+        0,
+        r.origin,
+        s,
+        d,
+        left,
+        right,
+        w,
+        MOST_TERMS,
+    )
 }
 
 // Walks the masked block, above the values of the origin block.
@@ -76,7 +89,20 @@ fn walk_masked(
     let s = masked_scope(r);
     let to = r.origin + r.masked;
     let w = r.variables + 1;
-    walk_block(lists, constants, r, r.origin, to, s, d, left, right, w)
+    walk_block(
+        MODULUS,
+        lists,
+        constants,
+        r,
+        r.origin,
+        to,
+        s,
+        d,
+        left,
+        right,
+        w,
+        MOST_TERMS,
+    )
 }
 
 // Walks both blocks.

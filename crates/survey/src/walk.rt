@@ -1,7 +1,5 @@
 // A block of statements walked from the top: each value is formed above the others, unless what
 // stands and the raw size exceed the limit.
-use crate::survey::MODULUS;
-use crate::survey::MOST_TERMS;
 use text::routine::Routine;
 use values::found::find;
 use values::raw::raw_size;
@@ -10,9 +8,7 @@ use values::source::Scope;
 use values::value::form_value;
 ghost use mathlib.Core.Path.{_≡_};
 ghost use Rattle.text.specs.Routine.{mapsOf};
-ghost use Rattle.values.specs.Raw.{mostStanding};
 ghost use Rattle.survey.specs.Walk.{WalkAsked, Walked};
-ghost use Rattle.survey.specs.Survey.{modulus};
 
 // Whether the limit was exceeded, with the line; and the directory of the values that stand.
 pub struct Walk {
@@ -22,8 +18,9 @@ pub struct Walk {
 }
 
 // Walks the statements from..to; stops at the first at which what stands and the raw size exceed
-// the limit.
-pub fn walk_block(
+// `most` terms.
+pub(crate) fn walk_block(
+    m: u8,
     lists: [[u8; 8]; 8],
     constants: [u8; 8],
     r: Routine,
@@ -34,11 +31,12 @@ pub fn walk_block(
     left: &mut [u8],
     right: &mut [u8],
     w: usize,
+    most: usize,
 ) -> Walk
-    requires { ⌜ WalkAsked modulus lists constants (mapsOf r) (r .statements) from to s d
-        (now left) (now right) w mostStanding ⌝ }
-    ensures { λ q. ⌜ Walked modulus (mapsOf r) (r .statements) from to s d
-        (now (left .entry)) w mostStanding (now (left .exit)) q ⌝ }
+    requires { ⌜ WalkAsked m lists constants (mapsOf r) (r .statements) from to s d
+        (now left) (now right) w most ⌝ }
+    ensures { λ q. ⌜ Walked m (mapsOf r) (r .statements) from to s d
+        (now (left .entry)) w most (now (left .exit)) q ⌝ }
 {
     let mut shelf = d;
     let mut i = from;
@@ -48,16 +46,15 @@ pub fn walk_block(
         let op = statement.op;
         let found = find(s, shelf, op);
         let raw = raw_size(lists, constants, found);
-        let top = shelf.top;
-        if MOST_TERMS - top < raw {
+        if most - shelf.top < raw {
             return ended(true, statement.line, shelf);
         }
-        let k = form_value(MODULUS, lists, constants, found, left, top, right, w);
+        let k = form_value(m, lists, constants, found, left, shelf.top, right, w);
         let at = shelf.count;
-        shelf.starts[at] = top as u16;
+        shelf.starts[at] = shelf.top as u16;
         shelf.sizes[at] = k as u16;
         shelf.count = at + 1;
-        shelf.top = top + k;
+        shelf.top += k;
         i += 1;
     }
     ended(false, 0, shelf)

@@ -7,11 +7,11 @@ use mathlib.Core.List.{List}
 use lib.Dec.{eqb}
 use borrow.Author.Tests.{eqb-true, eqb-false}
 use Rattle.text.specs.declared.read.Reading as answer
-use Rattle.text.specs.Read.{Routine, Reading, refused, accepted, readText}
+use Rattle.rules.specs.Read.{Routine, Reading, refused, accepted, readText}
 use Rattle.text.specs.Routine.{routineOf}
 use Rattle.text.specs.Reading.{readingOf, refusalOf, lineOf, ReadingIs}
 use Rattle.text.proofs.Laws.Counts.{reading-accepted}
-use Rattle.text.proofs.Laws.Refusing.{Numbered, read-numbered}
+use Rattle.rules.proofs.Laws.Refusing.{Numbered, read-numbered}
 
 -- the routine of an accepted text
 routineOr : Routine → Reading → Routine

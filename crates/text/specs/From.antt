@@ -10,9 +10,9 @@ use Rattle.tokens.specs.Split.{pieces}
 use Rattle.reader.specs.declared.cursor.Cursor.{Cursor}
 use Rattle.reader.specs.declared.reader.Reader.{Reader}
 use Rattle.reader.specs.Reader.{placed}
-use Rattle.text.specs.Limits.{mostBytes}
-use Rattle.text.specs.State.{start}
-use Rattle.text.specs.Read.{Reading, refused, takeLines}
+use Rattle.rules.specs.Limits.{mostBytes}
+use Rattle.rules.specs.State.{start}
+use Rattle.rules.specs.Read.{Reading, refused, takeLines}
 use Rattle.text.specs.Reading.{ReadingIs}
 use Rattle.text.specs.declared.read.Reading as answer
 

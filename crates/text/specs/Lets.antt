@@ -2,7 +2,7 @@
 -- Assumes nothing.
 use Prim.Native.Nat.{ℕ, zero, suc, _+_, _-_, _≤_}
 use mathlib.Core.Path.{_≡_}
-use mathlib.Core.Bool.{Bool, false, cond}
+use mathlib.Core.Bool.{Bool, cond}
 use mathlib.Core.List.{List, [], _∷_}
 use mathlib.Core.Option.{Option, none, some}
 use lib.Dec.{eqb}
@@ -11,14 +11,15 @@ use Rattle.tokens.specs.Limits.{noPart, mostDepth}
 use Rattle.tokens.specs.Token.{Name}
 use Rattle.grammar.specs.declared.line.NameRef.{NameRef}
 use Rattle.grammar.specs.Formula.{Formula, depth, operations, readFormula}
-use Rattle.text.specs.declared.types.Statement.{Statement}
+use Rattle.rules.specs.declared.types.Statement.{Statement}
 use Rattle.text.specs.declared.known.Known.{Known}
 use Rattle.text.specs.declared.step.Letting.{Letting}
-use Rattle.text.specs.Limits.{mostStatements}
-use Rattle.text.specs.Order.{inMasked}
-use Rattle.text.specs.Scope.{unknownFormula, letCount, letOps, stated}
-use Rattle.text.specs.Names.{put}
-use Rattle.text.specs.Compiled.{opAt, written}
+use Rattle.rules.specs.Limits.{mostStatements}
+use Rattle.rules.specs.Order.{inMasked}
+use Rattle.rules.specs.Scope.{unknownFormula, letCount, letOps}
+use Rattle.rules.specs.Added.{atLine}
+use Rattle.lookup.specs.Names.{put}
+use Rattle.lookup.specs.Coded.{written}
 
 -- the field that holds the formula
 abbrev pub fieldOf : List ℕ → Letting → List ℕ
@@ -31,12 +32,7 @@ counted n = cond (eqb n 0) 1 n
 -- the statements of a formula, by the names of its set and of the maps; n is its line
 abbrev pub statementsOf : ℕ → List Name → List Name → Option Formula → List Statement
 statementsOf n ms maps none = []
-statementsOf n ms maps (some e) = stated n (letOps ms maps (length ms) e)
-
--- the statements of the entries of an array from i on, m of them, all with line n
-unfoldable pub opsFrom : List ℕ → ℕ → ℕ → ℕ → List Statement
-opsFrom c n i zero = []
-opsFrom c n i (suc m) = record { op = opAt c i; line = n } ∷ opsFrom c n (i + 1) m
+statementsOf n ms maps (some e) = atLine n (letOps ms maps (length ms) e)
 
 -- an array with other elements from place `at` on
 unfoldable pub setAll : {A : Type 0} → List A → ℕ → List A → List A
@@ -74,15 +70,15 @@ originLet k n =
       named = k .named;
     }
 
--- so many statements more of the masked block
-abbrev pub maskedLet : Known → ℕ → Known
-maskedLet k n =
+-- so many statements more of the masked block, v variables in all
+abbrev pub maskedMore : Known → ℕ → ℕ → Known
+maskedMore k v n =
     record {
       stage = k .stage;
       shares = k .shares;
       mapped = k .mapped;
       inputs = k .inputs;
-      variables = k .variables;
+      variables = v;
       origin = k .origin;
       masked = k .masked + n;
       wholes = k .wholes;
@@ -92,6 +88,10 @@ maskedLet k n =
       named = k .named;
     }
 
+-- so many statements more of the masked block
+abbrev pub maskedLet : Known → ℕ → Known
+maskedLet k n = maskedMore k (k .variables) n
+
 -- so many statements more in the block that the `let` stands in
 abbrev pub letAdded : Known → ℕ → Known
 letAdded k n = cond (eqb (k .stage) inMasked) (maskedLet k n) (originLet k n)
@@ -99,14 +99,6 @@ letAdded k n = cond (eqb (k .stage) inMasked) (maskedLet k n) (originLet k n)
 -- so many statements more are within the limits, and there is one at least
 abbrev pub LetFits : Known → ℕ → Type 0
 LetFits k n = (1 ≤ n) × (k .origin + k .masked + n ≤ mostStatements)
-
--- the field holds a formula of so many statements, and all that it reads is given
-pub record LetRead (s : List ℕ) (ms maps : List Name) (f : Letting) : Type 0 where
-  pub formula : Formula
-  pub read : readFormula (fieldOf s f) ≡ some formula
-  pub inside : f .at + f .len ≤ length s
-  pub count : f .count ≡ letCount formula
-  pub known : unknownFormula ms maps formula ≡ false
 
 -- there is a formula, and room for its operations
 abbrev pub LetRoom : Option Formula → Type 0

@@ -7,9 +7,9 @@ use lib.Dec.{eqb}
 use lib.ListN.{take, drop}
 use Rattle.text.specs.declared.routine.Routine as code
 use Rattle.text.specs.declared.read.Reading as answer
-use Rattle.text.specs.Limits.{mostMaps, mostInputs, mostVariables, mostStatements}
-use Rattle.text.specs.Read.{Reading, refused, accepted, routine}
-use Rattle.text.specs.Order.{atEnd}
+use Rattle.rules.specs.Limits.{mostMaps, mostInputs, mostVariables, mostStatements}
+use Rattle.rules.specs.Read.{Reading, refused, accepted, routine}
+use Rattle.rules.specs.Order.{atEnd}
 use Rattle.text.specs.Known.{Kept, stateIn}
 use Rattle.grammar.specs.declared.line.Line.{Line}
 use Rattle.tokens.specs.Ascii.{all, allowed}

@@ -3,13 +3,13 @@
 use Prim.Native.Nat.{ℕ, _+_, _*_, _≤_}
 use mathlib.Core.List.{List}
 use lib.ListN.{take, drop, replicate}
-use Rattle.text.specs.declared.types.Operand.the-variants.{Byte}
-use Rattle.text.specs.declared.types.Op.the-variants.{Set}
-use Rattle.text.specs.declared.types.Statement.{Statement}
-use Rattle.text.specs.declared.types.AffineMap.{AffineMap}
+use Rattle.rules.specs.declared.types.Operand.the-variants.{Byte}
+use Rattle.rules.specs.declared.types.Op.the-variants.{Set}
+use Rattle.rules.specs.declared.types.Statement.{Statement}
+use Rattle.rules.specs.declared.types.AffineMap.{AffineMap}
 use Rattle.text.specs.declared.routine.Routine as code
-use Rattle.text.specs.Limits.{mostMaps, mostInputs, mostVariables, mostStatements}
-use Rattle.text.specs.Read.{Routine}
+use Rattle.rules.specs.Limits.{mostMaps, mostInputs, mostVariables, mostStatements}
+use Rattle.rules.specs.Read.{Routine}
 use Rattle.tokens.specs.Limits.{mostShares, columnCount}
 
 -- ---- what it stands for: the parts of the arrays that are in use

@@ -19,10 +19,13 @@ use Rattle.tokens.specs.Limits.{columnCount}
 use Rattle.grammar.specs.Line.{piecesIn, nameIn}
 use Rattle.grammar.specs.Record.{Record, recordFor, nests}
 use Rattle.grammar.specs.Recorded.{recordIn, mapIn, columnsOf, assignIn}
-use Rattle.text.specs.State.{State}
-use Rattle.text.specs.Scope.{repeats, readsUnknown, exceeds, miscounts, added}
-use Rattle.text.specs.Read.{firstOf, Outcome, stop, unless, takeRecord, takeLine}
-use Rattle.text.specs.Known.{Arrays, Kept, kept, stateIn, Sound, Sized, Fits, LetsRead, after}
+use Rattle.rules.specs.State.{State}
+use Rattle.rules.specs.Faults.{repeats, readsUnknown, exceeds, miscounts}
+use Rattle.rules.specs.Added.{added}
+use Rattle.rules.specs.Read.{firstOf, Outcome, stop, unless, takeRecord, takeLine}
+use Rattle.text.specs.Known.{Arrays, Kept, kept, stateIn, Sound, Sized}
+use Rattle.text.specs.Added.{Fits}
+use Rattle.text.specs.Stored.{LetsHeld, after}
 
 -- the number of the first fault, by the answers of the five tests; the first is whether the record may stand here
 unfoldable pub firstFault : Bool → Bool → Bool → Bool → Bool → ℕ
@@ -53,22 +56,23 @@ abbrev pub Led : List ℕ → List ℕ → Known → Step → (State → Outcome
 Led s t k r f =
     (a : Arrays) → Sized (kept t k a) → outcomeIn s (kept t k a) r ≡ f (stateIn s (kept t k a))
 
--- the whole outcome of taking line n's record, before its stage
-pub record Took (s t : List ℕ) (k : Known) (n : ℕ) (stands : Bool) (o : Option Record) (r : Step) : Type 0 where
+-- the whole outcome of taking line n's record, before its stage; codes are the numbers of a `let`
+pub record Took (s t codes : List ℕ) (k : Known) (n : ℕ) (stands : Bool) (o : Option Record) (r : Step) : Type 0 where
   pub outcome : Led s t k r (λ st. takes st n stands o)
   pub stage : r .known .stage ≡ k .stage
   pub sound : Sound (r .known)
   pub fits : Fits k (r .put)
-  pub lets : LetsRead s t k (r .put)
+  pub lets : LetsHeld s t codes k (r .put)
   pub stood : r .refusal ≡ 0 → stands ≡ true
 
 -- taking the code's record r of line n
-abbrev pub TookLine : List ℕ → List ℕ → Known → Line → ℕ → Bool → Rec → Step → Type 0
-TookLine s t k l n stands r q = Took s t k n stands (recordIn s (piecesIn s l) r) q
+abbrev pub TookLine : List ℕ → List ℕ → List ℕ → Known → Line → ℕ → Bool → Rec → Step → Type 0
+TookLine s t codes k l n stands r q = Took s t codes k n stands (recordIn s (piecesIn s l) r) q
 
 -- taking a record that holds all it says, on whatever line
 abbrev pub TookAny : List ℕ → List ℕ → Known → Bool → Rec → Step → Type 0
-TookAny s t k stands r q = (ps : List (List ℕ)) (n : ℕ) → Took s t k n stands (recordIn s ps r) q
+TookAny s t k stands r q =
+    (codes : List ℕ) (ps : List (List ℕ)) (n : ℕ) → Took s t codes k n stands (recordIn s ps r) q
 
 -- taking `origin` or `masked`
 abbrev pub TookMark : List ℕ → List ℕ → Known → Bool → Step → Type 0
@@ -77,28 +81,28 @@ TookMark s t k stands q = TookAny s t k stands Rec.Origin q × TookAny s t k sta
 -- taking the map x, its name and constant read
 abbrev pub TookColumns : List ℕ → List ℕ → Known → Line → Bool → NameRef → ℕ → Step → Type 0
 TookColumns s t k l stands x c q =
-    (n : ℕ) → Took s t k n stands (mapIn (nameIn s x) c (columnsOf (piecesIn s l))) q
+    (codes : List ℕ) (n : ℕ) → Took s t codes k n stands (mapIn (nameIn s x) c (columnsOf (piecesIn s l))) q
 
 -- taking a statement of line n that gives x
 abbrev pub TookForm : List ℕ → List ℕ → Known → ℕ → Bool → NameRef → FormRead → Step → Type 0
-TookForm s t k n stands x f q = Took s t k n stands (assignIn s (nameIn s x) f) q
+TookForm s t k n stands x f q = (codes : List ℕ) → Took s t codes k n stands (assignIn s (nameIn s x) f) q
 
 -- taking a statement of line n
 abbrev pub TookStatement : List ℕ → List ℕ → Known → ℕ → Bool → NameRead → FormRead → Step → Type 0
 TookStatement s t k n stands x f q =
-    (ps : List (List ℕ)) → Took s t k n stands (recordIn s ps (Rec.Assign x f)) q
+    (codes : List ℕ) (ps : List (List ℕ)) → Took s t codes k n stands (recordIn s ps (Rec.Assign x f)) q
 
--- a step leads to what f says of the state above it
-pub record Leads (s t : List ℕ) (k : Known) (r : Step) (f : State → Outcome) : Type 0 where
+-- a step leads to what f says of the state above it; codes are the numbers of a `let`
+pub record Leads (s t codes : List ℕ) (k : Known) (r : Step) (f : State → Outcome) : Type 0 where
   pub outcome : Led s t k r f
   pub sound : Sound (r .known)
   pub fits : Fits k (r .put)
-  pub lets : LetsRead s t k (r .put)
+  pub lets : LetsHeld s t codes k (r .put)
 
 -- what the record of line n leads to, its word known
-abbrev pub RecordLeads : List ℕ → List ℕ → Known → Line → ℕ → Word → Step → Type 0
-RecordLeads s t k l n w r = Leads s t k r (λ st. takeRecord st n w (recordFor w (piecesIn s l)))
+abbrev pub RecordLeads : List ℕ → List ℕ → List ℕ → Known → Line → ℕ → Word → Step → Type 0
+RecordLeads s t codes k l n w r = Leads s t codes k r (λ st. takeRecord st n w (recordFor w (piecesIn s l)))
 
 -- what line n leads to, which its line feed ends
-abbrev pub LineLeads : List ℕ → List ℕ → Known → Line → ℕ → Step → Type 0
-LineLeads s t k l n r = Leads s t k r (λ st. takeLine st n (take (l .len) (drop (l .from) s)))
+abbrev pub LineLeads : List ℕ → List ℕ → List ℕ → Known → Line → ℕ → Step → Type 0
+LineLeads s t codes k l n r = Leads s t codes k r (λ st. takeLine st n (take (l .len) (drop (l .from) s)))

@@ -1,21 +1,21 @@
 // A statement.
 use crate::known;
 use crate::known::Known;
-use crate::names::Names;
-use crate::names::Table;
-use crate::scope;
 use crate::step::Put;
 use crate::step::Step;
 use crate::step::first_fault;
 use crate::step::make;
-use crate::types::Statement;
 use grammar::line::NameRead;
 use grammar::line::NameRef;
 use grammar::record::FormRead;
+use lookup::names::Names;
+use lookup::names::Table;
+use lookup::scope;
+use rules::types::Statement;
 ghost use mathlib.Core.Path.{_≡_};
 ghost use mathlib.Core.Bool.{true};
 ghost use Prim.Native.Nat.{_≤_};
-ghost use Rattle.text.specs.Order.{inMasked};
+ghost use Rattle.rules.specs.Order.{inMasked};
 ghost use Rattle.text.specs.Known.{Sound};
 ghost use Rattle.text.specs.Taken.{TookForm, TookStatement};
 

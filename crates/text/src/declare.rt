@@ -1,29 +1,30 @@
 // The records before the blocks: `shares`, `map` and `input`.
 use crate::known::Known;
-use crate::limits::MOST_INPUTS;
-use crate::limits::MOST_MAPS;
-use crate::limits::MOST_VARIABLES;
-use crate::limits::ORIGIN_FROM;
-use crate::names::Names;
-use crate::names::Table;
-use crate::scope;
-use crate::step;
 use crate::step::Put;
 use crate::step::Step;
 use crate::step::first_fault;
 use crate::step::make;
-use crate::types::AffineMap;
 use grammar::line::Line;
 use grammar::line::NameRead;
 use grammar::line::NameRef;
 use grammar::lists;
+use lookup::flags;
+use lookup::names::Names;
+use lookup::names::Table;
+use lookup::scope;
+use rules::limits::MOST_INPUTS;
+use rules::limits::MOST_MAPS;
+use rules::limits::MOST_VARIABLES;
+use rules::limits::ORIGIN_FROM;
+use rules::types::AffineMap;
 use tokens::token::Number;
 ghost use mathlib.Core.Path.{_≡_};
 ghost use mathlib.Core.List.{List};
 ghost use Prim.Native.Nat.{ℕ};
 ghost use Rattle.grammar.specs.declared.record.Rec.the-variants as rec;
 ghost use Rattle.grammar.specs.Line.{Inside};
-ghost use Rattle.text.specs.Known.{Sound, InputFits, inputAdded};
+ghost use Rattle.text.specs.Known.{Sound};
+ghost use Rattle.text.specs.Added.{InputFits, inputAdded};
 ghost use Rattle.text.specs.Taken.{TookAny, TookLine, TookColumns};
 
 // `shares`.
@@ -53,8 +54,8 @@ pub(crate) fn take_map(
     stands: bool,
 ) -> Step
     requires { ⌜ (Inside (now s) l) × (Sound k) ⌝ }
-    ensures { λ r. ⌜ ((n : ℕ) →
-        TookLine (now (s .entry)) (now (t .entry)) k l n stands (rec.Map x constant) r) ⌝ }
+    ensures { λ r. ⌜ ((codes : List ℕ) (n : ℕ) →
+        TookLine (now (s .entry)) (now (t .entry)) codes k l n stands (rec.Map x constant) r) ⌝ }
 {
     match x {
         NameRead::Name(m) => match constant {
@@ -118,7 +119,7 @@ pub(crate) fn take_input(s: &[u8], t: &Table, k: Known, x: NameRead, stands: boo
             let given = scope::is_given(s, t, set, m);
             let fifth = MOST_INPUTS < k.inputs + 1;
             let over = MOST_VARIABLES < k.variables + k.shares;
-            let many = step::one_of(fifth, over);
+            let many = flags::one_of(fifth, over);
             let e = first_fault(stands, given, false, many, false);
             if e != 0 {
                 return make(e, k, Put::Nothing);

@@ -1,21 +1,21 @@
 // What the lines above have given, in numbers: the stage, the counts, the result and the outputs.
-use crate::limits::MASKED_FROM;
-use crate::limits::MOST_STATEMENTS;
-use crate::limits::MOST_VARIABLES;
-use crate::limits::ORIGIN_FROM;
-use crate::names::Names;
 use crate::order;
 use crate::order::AT_START;
 use crate::order::IN_MASKED;
+use lookup::names::Names;
+use rules::limits::MASKED_FROM;
+use rules::limits::MOST_STATEMENTS;
+use rules::limits::MOST_VARIABLES;
+use rules::limits::ORIGIN_FROM;
 use tokens::limits::MOST_SHARES;
 use tokens::word::Word;
 ghost use mathlib.Core.Path.{_≡_};
-ghost use Prim.Native.Nat.{_≤_, _<_};
-ghost use Rattle.text.specs.Limits.{mostStatements};
-ghost use Rattle.text.specs.Names.{Within};
-ghost use Rattle.text.specs.Order.{stageAfter};
-ghost use Rattle.text.specs.Known.{Sound, blank, atStage, stated, crowded, blockNames};
-ghost use Rattle.text.specs.Known.{nameSlot, statementSlot};
+ghost use Prim.Native.Nat.{_≤_};
+ghost use Rattle.lookup.specs.Names.{Within};
+ghost use Rattle.rules.specs.Order.{stageAfter};
+ghost use Rattle.text.specs.Known.{Sound, blockNames};
+ghost use Rattle.text.specs.Added.{blank, atStage, stated, crowded};
+ghost use Rattle.text.specs.Stored.{nameSlot};
 
 // The state of reading between two lines, but for the names, maps and statements themselves.
 pub struct Known {
@@ -116,16 +116,4 @@ pub(crate) fn name_slot(k: Known) -> usize
         return MASKED_FROM + k.parts;
     }
     ORIGIN_FROM + k.wholes
-}
-
-// The place of the next statement, or 0 where there is no room.
-pub(crate) fn statement_slot(k: Known) -> usize
-    requires { ⌜ Sound k ⌝ }
-    ensures { λ r. ⌜ (r < mostStatements) × (r ≡ statementSlot k) ⌝ }
-{
-    let at = k.origin + k.masked;
-    if at < MOST_STATEMENTS {
-        return at;
-    }
-    0
 }

@@ -1,28 +1,25 @@
-// A `let`: its formula looked up, and its statements stored.
-use crate::compile;
-use crate::compile::CODES;
-use crate::compile::Codes;
-use crate::compile::Lookup;
-use crate::decode;
+// A `let`: its formula looked up, and its operations written.
 use crate::known;
 use crate::known::Known;
-use crate::limits::MOST_STATEMENTS;
-use crate::names::Names;
-use crate::names::Table;
 use crate::order::IN_MASKED;
-use crate::scope;
 use crate::step::Letting;
 use crate::step::Put;
 use crate::step::Step;
 use crate::step::first_fault;
 use crate::step::make;
-use crate::types::Op;
-use crate::types::Statement;
 use grammar::formula;
 use grammar::line;
 use grammar::line::Line;
 use grammar::line::NameRead;
 use grammar::line::NameRef;
+use lookup::compile;
+use lookup::compile::Codes;
+use lookup::compile::Lookup;
+use lookup::names::Names;
+use lookup::names::Table;
+use lookup::scope;
+use rules::limits::MOST_STATEMENTS;
+use rules::types::Op;
 use tokens::limits::MOST_DEPTH;
 use tokens::split;
 ghost use mathlib.Core.Path.{_≡_};
@@ -33,12 +30,12 @@ ghost use Rattle.grammar.specs.declared.record.Rec.the-variants as rec;
 ghost use Rattle.grammar.specs.Line.{Inside, piecesIn, nameIn};
 ghost use Rattle.grammar.specs.Formula.{readFormula};
 ghost use Rattle.grammar.specs.Recorded.{formulaOf, letIn};
-ghost use Rattle.text.specs.Limits.{mostStatements};
-ghost use Rattle.text.specs.Order.{inMasked};
-ghost use Rattle.text.specs.Names.{namesIn};
-ghost use Rattle.text.specs.Lets.{fieldOf, counted, setAll, opsFrom, letAdded};
-ghost use Rattle.text.specs.Lets.{LetFits, LetRead, LetRoom, LetWritten, Shallow};
-ghost use Rattle.text.specs.Known.{Sound, blockNames, mapNames, letStatements};
+ghost use Rattle.rules.specs.Limits.{mostStatements};
+ghost use Rattle.rules.specs.Order.{inMasked};
+ghost use Rattle.lookup.specs.Names.{namesIn};
+ghost use Rattle.text.specs.Lets.{fieldOf, counted, letAdded};
+ghost use Rattle.text.specs.Lets.{LetRoom, LetWritten, Shallow};
+ghost use Rattle.text.specs.Known.{Sound, blockNames, mapNames};
 ghost use Rattle.text.specs.Taken.{Took, TookLine};
 
 // A `let`; n is its line.
@@ -50,12 +47,14 @@ pub(crate) fn take_let(
     n: usize,
     x: NameRead,
     stands: bool,
+    codes: &mut Codes,
 ) -> Step
     requires { ⌜ (Inside (now s) l) × (Sound k) × (stands ≡ true → k .stage ≤ inMasked) ⌝ }
-    ensures { λ r. ⌜ TookLine (now (s .entry)) (now (t .entry)) k l n stands (rec.Let x) r ⌝ }
+    ensures { λ r. ⌜ TookLine (now (s .entry)) (now (t .entry)) (now (codes .exit)) k l n stands
+        (rec.Let x) r × (length (now (codes .exit)) ≡ length (now (codes .entry))) ⌝ }
 {
     match x {
-        NameRead::Name(m) => take_formula(s, t, k, l, n, m, stands),
+        NameRead::Name(m) => take_formula(s, t, k, l, n, m, stands, codes),
         NameRead::Bad => make(5, k, Put::Nothing),
     }
 }
@@ -69,10 +68,12 @@ pub(crate) fn take_formula(
     n: usize,
     x: NameRef,
     stands: bool,
+    codes: &mut Codes,
 ) -> Step
     requires { ⌜ (Inside (now s) l) × (Sound k) × (stands ≡ true → k .stage ≤ inMasked) ⌝ }
-    ensures { λ r. ⌜ Took (now (s .entry)) (now (t .entry)) k n stands
-        (letIn (nameIn (now (s .entry)) x) (formulaOf (piecesIn (now (s .entry)) l))) r ⌝ }
+    ensures { λ r. ⌜ Took (now (s .entry)) (now (t .entry)) (now (codes .exit)) k n stands
+        (letIn (nameIn (now (s .entry)) x) (formulaOf (piecesIn (now (s .entry)) l))) r
+        × (length (now (codes .exit)) ≡ length (now (codes .entry))) ⌝ }
 {
     let read = formula::line_formula(s, l);
     if read.ok {
@@ -87,7 +88,7 @@ pub(crate) fn take_formula(
             count,
             line: n,
         };
-        return take_shallow(s, t, k, x, here, stands);
+        return take_shallow(s, t, k, x, here, stands, codes);
     }
     make(5, k, Put::Nothing)
 }
@@ -100,13 +101,14 @@ pub(crate) fn take_shallow(
     x: NameRef,
     f: Letting,
     stands: bool,
+    codes: &mut Codes,
 ) -> Step
     requires { ⌜ (Shallow (now s) f) × (Sound k) × (stands ≡ true → k .stage ≤ inMasked) ⌝ }
-    ensures { λ r. ⌜ Took (now (s .entry)) (now (t .entry)) k (f .line) stands
-        (letIn (nameIn (now (s .entry)) x) (readFormula (fieldOf (now (s .entry)) f))) r ⌝ }
+    ensures { λ r. ⌜ Took (now (s .entry)) (now (t .entry)) (now (codes .exit)) k (f .line) stands
+        (letIn (nameIn (now (s .entry)) x) (readFormula (fieldOf (now (s .entry)) f))) r
+        × (length (now (codes .exit)) ≡ length (now (codes .entry))) ⌝ }
 {
-    let mut codes = [0; CODES];
-    let unknown = write_let(s, t, k, f, &mut codes);
+    let unknown = write_let(s, t, k, f, codes);
     let set = known::block_names(k);
     let given = scope::is_given(s, t, set, x);
     let many = MOST_STATEMENTS < k.origin + k.masked + f.count;
@@ -172,44 +174,4 @@ pub(crate) fn write_let(s: &[u8], t: &Table, k: Known, f: Letting, out: &mut Cod
         return r.unknown;
     }
     r.unknown
-}
-
-// The statements with those of a `let` behind them.
-pub(crate) fn store_let(
-    s: &[u8],
-    t: &Table,
-    k: Known,
-    f: Letting,
-    statements: [Statement; MOST_STATEMENTS],
-) -> [Statement; MOST_STATEMENTS]
-    requires { ⌜ (Sound k) × (LetFits k (f .count))
-        × LetRead (now s) (namesIn (now s) (now t) (blockNames k))
-        (namesIn (now s) (now t) (mapNames k)) f ⌝ }
-    ensures { λ r. ⌜ r ≡ setAll statements (k .origin + k .masked)
-        (letStatements (now (s .entry)) (now (t .entry)) k f) ⌝ }
-{
-    let mut codes = [0; CODES];
-    let unknown = write_let(s, t, k, f, &mut codes);
-    put_statements(statements, k.origin + k.masked, &codes, f.count, f.line)
-}
-
-// The statements with those of the first entries from place `at` on.
-pub(crate) fn put_statements(
-    statements: [Statement; MOST_STATEMENTS],
-    at: usize,
-    codes: &Codes,
-    count: usize,
-    line: usize,
-) -> [Statement; MOST_STATEMENTS]
-    requires { ⌜ at + count ≤ mostStatements ⌝ }
-    ensures { λ r. ⌜ r ≡ setAll statements at (opsFrom (now (codes .entry)) line 0 count) ⌝ }
-{
-    let mut next = statements;
-    let mut i = 0;
-    while i < count {
-        let st = decode::statement_at(codes, i, line);
-        next[at + i] = st;
-        i += 1;
-    }
-    next
 }

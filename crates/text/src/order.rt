@@ -3,7 +3,7 @@ use tokens::word::Word;
 ghost use mathlib.Core.Path.{_≡_};
 ghost use mathlib.Core.Bool.{_||_};
 ghost use lib.Dec.{eqb};
-ghost use Rattle.text.specs.Order.{mayStand, stageAfter};
+ghost use Rattle.rules.specs.Order.{mayStand, stageAfter};
 
 // Nothing is read yet.
 pub const AT_START: u8 = 0;

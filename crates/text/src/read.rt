@@ -1,12 +1,6 @@
 // A text: the routine that it holds, or its refusal.
 use crate::known;
 use crate::known::Known;
-use crate::letting;
-use crate::limits::MOST_BYTES;
-use crate::limits::MOST_MAPS;
-use crate::limits::MOST_STATEMENTS;
-use crate::names;
-use crate::names::Table;
 use crate::order;
 use crate::order::AT_END;
 use crate::routine;
@@ -14,18 +8,26 @@ use crate::routine::Routine;
 use crate::step;
 use crate::step::Put;
 use crate::step::Step;
+use crate::store;
 use crate::take;
-use crate::types::AffineMap;
-use crate::types::Statement;
 use grammar::line;
 use grammar::line::Line;
 use grammar::record;
+use lookup::compile::CODES;
+use lookup::compile::Codes;
+use lookup::names;
+use lookup::names::Table;
 use reader::cursor;
 use reader::cursor::Ahead;
 use reader::cursor::Cursor;
 use reader::handed;
 use reader::reader::Reader;
 use reader::reader::open;
+use rules::limits::MOST_BYTES;
+use rules::limits::MOST_MAPS;
+use rules::limits::MOST_STATEMENTS;
+use rules::types::AffineMap;
+use rules::types::Statement;
 use tokens::bytes;
 use tokens::split;
 use tokens::word;
@@ -33,9 +35,10 @@ use tokens::word::Word;
 ghost use mathlib.Core.Path.{_≡_};
 ghost use mathlib.Core.List.{List};
 ghost use Prim.Native.Nat.{ℕ, _≤_};
+ghost use lib.ListN.{length};
 ghost use Rattle.grammar.specs.Line.{Inside};
-ghost use Rattle.text.specs.Limits.{mostBytes};
-ghost use Rattle.text.specs.Read.{readText, refused};
+ghost use Rattle.rules.specs.Limits.{mostBytes};
+ghost use Rattle.rules.specs.Read.{readText, refused};
 ghost use Rattle.text.specs.From.{readFrom, ReadsOn, Stands, LinesAre};
 ghost use Rattle.text.specs.Known.{Sound, arrays, kept};
 ghost use Rattle.text.specs.Taken.{RecordLeads, LineLeads};
@@ -50,13 +53,22 @@ pub struct Reading {
 }
 
 // The record of line n, its word known.
-pub(crate) fn take_record(s: &[u8], t: &Table, k: Known, l: Line, n: usize, w: Word) -> Step
+pub(crate) fn take_record(
+    s: &[u8],
+    t: &Table,
+    k: Known,
+    l: Line,
+    n: usize,
+    w: Word,
+    codes: &mut Codes,
+) -> Step
     requires { ⌜ (Inside (now s) l) × (Sound k) ⌝ }
-    ensures { λ r. ⌜ RecordLeads (now (s .entry)) (now (t .entry)) k l n w r ⌝ }
+    ensures { λ r. ⌜ RecordLeads (now (s .entry)) (now (t .entry)) (now (codes .exit)) k l n w r
+        × (length (now (codes .exit)) ≡ length (now (codes .entry))) ⌝ }
 {
     let r = record::record(s, l, w);
     let stands = order::may_stand(w, k.stage);
-    let step = take::take_any(s, t, k, l, n, r, stands);
+    let step = take::take_any(s, t, k, l, n, r, stands, codes);
     if step.refusal != 0 {
         return step;
     }
@@ -73,14 +85,15 @@ pub(crate) fn take_record(s: &[u8], t: &Table, k: Known, l: Line, n: usize, w: W
 }
 
 // Line n, which its line feed ends.
-pub(crate) fn take_line(s: &[u8], t: &Table, k: Known, l: Line, n: usize) -> Step
+pub(crate) fn take_line(s: &[u8], t: &Table, k: Known, l: Line, n: usize, codes: &mut Codes) -> Step
     requires { ⌜ (Inside (now s) l) × (Sound k) ⌝ }
-    ensures { λ r. ⌜ LineLeads (now (s .entry)) (now (t .entry)) k l n r ⌝ }
+    ensures { λ r. ⌜ LineLeads (now (s .entry)) (now (t .entry)) (now (codes .exit)) k l n r
+        × (length (now (codes .exit)) ≡ length (now (codes .entry))) ⌝ }
 {
     if bytes::all_allowed(split::part(s, l.from, l.len)) {
         let f = line::field(s, l, 0);
         let w = word::word_of(split::part(s, f.at, f.len));
-        return take_record(s, t, k, l, n, w);
+        return take_record(s, t, k, l, n, w, codes);
     }
     step::make(3, k, Put::Nothing)
 }
@@ -179,29 +192,29 @@ pub(crate) fn read_lines(s: &[u8], from: Cursor) -> Reading
     let mut maps = none.maps;
     let mut statements = none.statements;
     let mut table = names::none();
+    let mut codes = [0; CODES];
     let mut k = known::begin();
     let mut c = from;
     loop {
         match cursor::look(s, c) {
             Ahead::Line(l, next) => {
-                let step = take_line(s, &table, k, l, next.line);
+                let step = take_line(s, &table, k, l, next.line, &mut codes);
                 if step.refusal != 0 {
                     return refuse(step.refusal, next.line);
                 }
                 let put = step.put;
-                let i = known::statement_slot(k);
-                let st = statements[i];
-                let given = step::statement_after(put, st);
-                statements[i] = given;
-                let formula = step.put;
-                if let Put::Let(x, f) = formula {
-                    let more = letting::store_let(s, &table, k, f, statements);
-                    statements = more;
+                let at = k.origin + k.masked;
+                let count = step::count_given(put);
+                let mut i = 0;
+                while i < count {
+                    let st = step::statement_given(put, &codes, i);
+                    statements[at + i] = st;
+                    i += 1;
                 }
                 let map = step.map;
                 let all = step::maps_after(maps, k, put, map);
                 maps = all;
-                names::store(&mut table, k, put);
+                store::store_names(&mut table, k, put);
                 k = step.known;
                 c = next;
             }

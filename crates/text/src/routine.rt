@@ -1,10 +1,10 @@
 // The routine that a text holds, as a value: arrays of which the counted front parts are in use.
-use crate::limits::MOST_MAPS;
-use crate::limits::MOST_STATEMENTS;
-use crate::types::AffineMap;
-use crate::types::Op;
-use crate::types::Operand;
-use crate::types::Statement;
+use rules::limits::MOST_MAPS;
+use rules::limits::MOST_STATEMENTS;
+use rules::types::AffineMap;
+use rules::types::Op;
+use rules::types::Operand;
+use rules::types::Statement;
 use tokens::limits::COLUMNS;
 use tokens::limits::MOST_SHARES;
 ghost use mathlib.Core.Path.{_≡_};

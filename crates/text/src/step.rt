@@ -1,13 +1,19 @@
 // What one record leads to: its first fault, or what is known behind it and what is to be stored.
 use crate::known::Known;
-use crate::limits::MOST_MAPS;
-use crate::types::AffineMap;
-use crate::types::Statement;
 use grammar::line::NameRef;
+use lookup::compile::Codes;
+use lookup::decode;
+use rules::limits::MOST_MAPS;
+use rules::types::AffineMap;
+use rules::types::Op;
+use rules::types::Statement;
 use tokens::limits::COLUMNS;
 ghost use mathlib.Core.Path.{_≡_};
-ghost use mathlib.Core.Bool.{_&&_, _||_};
-ghost use Rattle.text.specs.Known.{Fits, statementAfter, mapsAfter};
+ghost use Prim.Native.Nat.{_<_};
+ghost use Rattle.rules.specs.Limits.{mostStatements};
+ghost use Rattle.text.specs.Given.{givenCount, givenAt};
+ghost use Rattle.text.specs.Added.{Fits};
+ghost use Rattle.text.specs.Stored.{mapsAfter};
 ghost use Rattle.text.specs.Taken.{firstFault, stepOf};
 
 // A formula: where its field stands, how many statements it counts as, and its line.
@@ -53,16 +59,34 @@ pub(crate) fn make(e: u8, k: Known, p: Put) -> Step
     }
 }
 
-// The statement behind a record, where st stood: the one that it gives, or st.
-pub(crate) fn statement_after(p: Put, st: Statement) -> Statement
-    ensures { λ r. ⌜ r ≡ statementAfter p st ⌝ }
+// How many statements a record gives.
+pub(crate) fn count_given(p: Put) -> usize
+    ensures { λ r. ⌜ r ≡ givenCount p ⌝ }
 {
     match p {
-        Put::Nothing => st,
-        Put::Map(x) => st,
-        Put::Input(x) => st,
-        Put::Stated(x, given) => given,
-        Put::Let(x, l) => st,
+        Put::Nothing => 0,
+        Put::Map(x) => 0,
+        Put::Input(x) => 0,
+        Put::Stated(x, st) => 1,
+        Put::Let(x, f) => f.count,
+    }
+}
+
+// Statement i of those that a record gives; a formula's is read back from its numbers.
+pub(crate) fn statement_given(p: Put, codes: &Codes, i: usize) -> Statement
+    requires { ⌜ i < mostStatements ⌝ }
+    ensures { λ r. ⌜ r ≡ givenAt (now (codes .entry)) p i ⌝ }
+{
+    let none = Statement {
+        op: Op::Rand(0),
+        line: 0,
+    };
+    match p {
+        Put::Nothing => none,
+        Put::Map(x) => none,
+        Put::Input(x) => none,
+        Put::Stated(x, st) => st,
+        Put::Let(x, f) => decode::statement_at(codes, i, f.line),
     }
 }
 
@@ -116,24 +140,4 @@ pub(crate) fn first_fault(
         return 0;
     }
     6
-}
-
-// Both hold.
-pub(crate) fn both(a: bool, b: bool) -> bool
-    ensures { λ r. ⌜ r ≡ (a && b) ⌝ }
-{
-    if a {
-        return b;
-    }
-    false
-}
-
-// One of them holds.
-pub(crate) fn one_of(a: bool, b: bool) -> bool
-    ensures { λ r. ⌜ r ≡ (a || b) ⌝ }
-{
-    if a {
-        return true;
-    }
-    b
 }

@@ -5,12 +5,6 @@ use crate::declare::take_map;
 use crate::declare::take_shares;
 use crate::known::Known;
 use crate::letting::take_let;
-use crate::limits::MASKED_FROM;
-use crate::limits::ORIGIN_FROM;
-use crate::names::Names;
-use crate::names::Table;
-use crate::outputs;
-use crate::scope;
 use crate::step::Put;
 use crate::step::Step;
 use crate::step::first_fault;
@@ -19,13 +13,21 @@ use grammar::line::Line;
 use grammar::line::NameRead;
 use grammar::lists;
 use grammar::record::Rec;
+use lookup::compile::Codes;
+use lookup::names::Names;
+use lookup::names::Table;
+use lookup::outputs;
+use lookup::scope;
+use rules::limits::MASKED_FROM;
+use rules::limits::ORIGIN_FROM;
 ghost use mathlib.Core.Path.{_≡_};
 ghost use mathlib.Core.Bool.{true};
 ghost use mathlib.Core.List.{List};
 ghost use Prim.Native.Nat.{ℕ, _≤_};
+ghost use lib.ListN.{length};
 ghost use Rattle.grammar.specs.declared.record.Rec.the-variants as rec;
 ghost use Rattle.grammar.specs.Line.{Inside};
-ghost use Rattle.text.specs.Order.{inMasked};
+ghost use Rattle.rules.specs.Order.{inMasked};
 ghost use Rattle.text.specs.Known.{Sound};
 ghost use Rattle.text.specs.Taken.{TookAny, TookLine, TookMark};
 
@@ -38,9 +40,11 @@ pub(crate) fn take_any(
     n: usize,
     r: Rec,
     stands: bool,
+    codes: &mut Codes,
 ) -> Step
     requires { ⌜ (Inside (now s) l) × (Sound k) × (stands ≡ true → k .stage ≤ inMasked) ⌝ }
-    ensures { λ q. ⌜ TookLine (now (s .entry)) (now (t .entry)) k l n stands r q ⌝ }
+    ensures { λ q. ⌜ TookLine (now (s .entry)) (now (t .entry)) (now (codes .exit)) k l n stands r q
+        × (length (now (codes .exit)) ≡ length (now (codes .entry))) ⌝ }
 {
     match r {
         Rec::Bad => make(5, k, Put::Nothing),
@@ -49,7 +53,7 @@ pub(crate) fn take_any(
         Rec::Input(x) => take_input(s, t, k, x, stands),
         Rec::Origin => take_mark(k, stands),
         Rec::Assign(x, f) => take_statement(s, t, k, n, x, f, stands),
-        Rec::Let(x) => take_let(s, t, k, l, n, x, stands),
+        Rec::Let(x) => take_let(s, t, k, l, n, x, stands, codes),
         Rec::Result(x) => take_result(s, t, k, x, stands),
         Rec::Masked => take_mark(k, stands),
         Rec::Output => take_output(s, t, k, l, stands),
@@ -89,8 +93,8 @@ pub(crate) fn take_result(s: &[u8], t: &Table, k: Known, x: NameRead, stands: bo
 // `output`.
 pub(crate) fn take_output(s: &[u8], t: &Table, k: Known, l: Line, stands: bool) -> Step
     requires { ⌜ (Inside (now s) l) × (Sound k) ⌝ }
-    ensures { λ r. ⌜ ((n : ℕ) →
-        TookLine (now (s .entry)) (now (t .entry)) k l n stands rec.Output r) ⌝ }
+    ensures { λ r. ⌜ ((codes : List ℕ) (n : ℕ) →
+        TookLine (now (s .entry)) (now (t .entry)) codes k l n stands rec.Output r) ⌝ }
 {
     let read = lists::read_outputs(s, l);
     if read.ok {

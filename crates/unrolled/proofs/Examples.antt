@@ -10,9 +10,9 @@ use Rattle.grammar.specs.Formula.{operations, depth, operationOf, operationAt, 
 use Rattle.grammar.specs.Formula.{pairAt, levelFor, level, formulaAt, parsed, whole, readFormula}
 use Rattle.grammar.specs.Record.{nests}
 use Rattle.grammar.specs.Written.{writtenFields, writtenLine}
-use Rattle.text.specs.Open.{text-open}
-use Rattle.text.specs.Grown.{withOriginAll, withMaskedAll}
-use Rattle.text.specs.Scope.{unknownFormula, letCount, valueOf, compiled, letOps}
+use Rattle.rules.specs.Open.{text-open}
+use Rattle.rules.specs.Stated.{withOriginAll, withMaskedAll}
+use Rattle.rules.specs.Scope.{unknownFormula, letCount, valueOf, compiled, letOps}
 use Rattle.unrolled.specs.Unrolled.{isUnnamed, unnamedIn, kept, numberedFrom, freeNames, letNames, termFor}
 use Rattle.unrolled.specs.Unrolled.{linesFor, letLines, led, behindLines, recordOf, namesFor, linesOf}
 use Rattle.unrolled.specs.Unrolled.{unrolledLines, unrolled}

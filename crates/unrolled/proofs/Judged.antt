@@ -5,7 +5,7 @@ use mathlib.Core.Path.{_≡_, refl, sym, ap, _∙_, subst}
 use mathlib.Core.Bool.{Bool, true, false, cond}
 use mathlib.Core.List.{List}
 use lib.ListN.{length}
-use Rattle.text.specs.Read.{Routine, Reading, accepted, readText}
+use Rattle.rules.specs.Read.{Routine, Reading, accepted, readText}
 use Rattle.verdict.specs.declared.report.Report.{Report}
 use Rattle.verdict.specs.Judge.{Outcome, refused, equal, differs, unknown, judgeRoutine, judgeReading, short}
 use Rattle.verdict.specs.Judge.{outcome, report, workAfter, listAfter, cameOf, Judged}

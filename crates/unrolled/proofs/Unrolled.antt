@@ -19,23 +19,24 @@ use Rattle.tokens.proofs.Laws.Some.{some-same}
 use Rattle.tokens.proofs.Laws.Joined.{Without, pieces-joined, joined-pieces, weight, joined-length}
 use Rattle.grammar.specs.Record.{Record, recordFor}
 use Rattle.grammar.proofs.Laws.Written.{line-no-feed}
-use Rattle.text.specs.declared.types.Statement.{Statement}
-use Rattle.text.specs.Limits.{mostBytes}
-use Rattle.text.specs.Order.{atEnd}
-use Rattle.text.specs.State.{State, start}
-use Rattle.text.specs.Read.{Routine, refused, accepted, Outcome, stop, takeRecord, takePieces, takeLine, takeLines}
-use Rattle.text.specs.Read.{routine, readText}
+use Rattle.rules.specs.declared.types.Statement.{Statement}
+use Rattle.rules.specs.Limits.{mostBytes}
+use Rattle.rules.specs.Order.{atEnd}
+use Rattle.rules.specs.State.{State, start}
+use Rattle.rules.specs.Read.{Routine, refused, accepted, Outcome, stop, takeRecord, takePieces, takeLine, takeLines}
+use Rattle.rules.specs.Read.{routine, readText}
 use Rattle.unrolled.specs.Unrolled.{recordOf, linesOf, unrolledLines, led, behindLines, unrolled}
 use Rattle.unrolled.specs.Lines.{unlinedStatement, unlined}
 use Rattle.unrolled.proofs.Laws.Filled.{filled}
 use Rattle.unrolled.proofs.Laws.Steps.{line-taken}
 use Rattle.unrolled.proofs.Laws.Runs.{runs, runs-first, runs-behind, Ended, accepted-runs, runs-accepted}
 use Rattle.unrolled.proofs.Laws.Runs.{refused-accepted}
-use Rattle.unrolled.proofs.Laws.Bounded.{start-bounded, runs-bounded}
+use Rattle.rules.proofs.Laws.Limits.{start-bounded}
+use Rattle.unrolled.proofs.Laws.Bounded.{runs-bounded}
 use Rattle.unrolled.proofs.Laws.Load.{Plain, mostPlain, load-most, runs-load}
 use Rattle.unrolled.proofs.Laws.Blocks.{opsOf, resting}
 use Rattle.unrolled.proofs.Laws.Related.{renamed, Related}
-use Rattle.unrolled.proofs.Laws.Letting.{each-append}
+use Rattle.rules.proofs.Laws.Letting.{each-append}
 use Rattle.unrolled.proofs.Laws.Unrolling.{line-stays, lines-unroll}
 
 -- ---- the empty piece behind the last line feed

@@ -1,8 +1,8 @@
 -- Routines, outcomes and reports apart from their line numbers. Assumes nothing.
 use mathlib.Core.Path.{_≡_}
 use mathlib.Core.List.{map}
-use Rattle.text.specs.declared.types.Statement.{Statement}
-use Rattle.text.specs.Read.{Routine}
+use Rattle.rules.specs.declared.types.Statement.{Statement}
+use Rattle.rules.specs.Read.{Routine}
 use Rattle.verdict.specs.declared.report.Report.{Report}
 use Rattle.verdict.specs.Judge.{Outcome, refused, equal, differs, unknown}
 

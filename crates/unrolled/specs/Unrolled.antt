@@ -17,10 +17,12 @@ use Rattle.grammar.specs.Formula as formula
 use Rattle.grammar.specs.Record.{set, xor, mul, app, Record, shares, map, input, origin, assign, letting, result}
 use Rattle.grammar.specs.Record.{masked, output, field, recordFor}
 use Rattle.grammar.specs.Written.{writtenLine}
-use Rattle.text.specs.State.{State, start}
-use Rattle.text.specs.Grown.{unnamed, atStage}
-use Rattle.text.specs.Scope.{missing, block, letCount}
-use Rattle.text.specs.Read.{Outcome, stop, next, takeLine}
+use Rattle.rules.specs.State.{State, start}
+use Rattle.rules.specs.Grown.{atStage}
+use Rattle.rules.specs.Stated.{unnamed}
+use Rattle.rules.specs.Scope.{missing, letCount}
+use Rattle.rules.specs.Faults.{block}
+use Rattle.rules.specs.Read.{Outcome, stop, next, takeLine}
 
 -- ---- names for inner values
 

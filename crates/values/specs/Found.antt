@@ -7,8 +7,8 @@ use lib.ListN.{getD}
 use Rattle.field.specs.Laws.{gf}
 use Rattle.poly.specs.Poly.{Poly, addPoly, mulPoly, mapPoly}
 use Rattle.poly.specs.Size.{oneIf, nonzeros}
-use Rattle.text.specs.declared.types.Op.{Op}
-use Rattle.text.specs.declared.types.AffineMap.{AffineMap}
+use Rattle.rules.specs.declared.types.Op.{Op}
+use Rattle.rules.specs.declared.types.AffineMap.{AffineMap}
 use Rattle.verdict.specs.Meaning.{given}
 use Rattle.verdict.specs.Instances.{polynomials}
 use Rattle.values.specs.declared.shelf.Shelf.{Shelf}
@@ -16,7 +16,6 @@ use Rattle.values.specs.declared.source.Scope.{Scope}
 use Rattle.values.specs.declared.found.Found.{Found}
 use Rattle.values.specs.declared.found.Found.the-variants.{Copy, Sum, Product, Image, Draw}
 use Rattle.values.specs.Source.{sourceOf, sourceSize, Fits, variablesOf, reach}
-use Rattle.values.specs.Load.{mostTermBytes}
 use Rattle.values.specs.Raw.{mostStanding, rawIn, Tabled}
 
 -- the value, where b holds the values so far
@@ -44,6 +43,14 @@ AllFit w top (Product r t) = Fits w top r × Fits w top t
 AllFit w top (Image f r) = (f < 8) × Fits w top r
 AllFit w top (Draw r) = Fits w top r × (sourceSize r ≤ 1)
 
+-- what the raw size asks: operands of few terms where sizes are added or multiplied, and a map in its place
+abbrev pub RawAsked : Found → Type 0
+RawAsked (Copy r) = Unit {0}
+RawAsked (Sum r t) = (sourceSize r ≤ mostStanding) × (sourceSize t ≤ mostStanding)
+RawAsked (Product r t) = (sourceSize r ≤ mostStanding) × (sourceSize t ≤ mostStanding)
+RawAsked (Image f r) = (f < 8) × (sourceSize r ≤ mostStanding)
+RawAsked (Draw r) = Unit {0}
+
 -- the sources are those of the statement's operands, in every buffer with this directory
 pub record FoundFor (s : Scope) (d : Shelf) (op : Op) (r : Found) : Type 0 where
   pub means : (m w : ℕ) (lists : List (List ℕ)) (constants b : List ℕ) (maps : List AffineMap)
@@ -53,11 +60,4 @@ pub record FoundFor (s : Scope) (d : Shelf) (op : Op) (r : Found) : Type 0 where
   pub sized : (m w : ℕ) (lists : List (List ℕ)) (constants b : List ℕ) (maps : List AffineMap)
       → Tabled m maps lists constants → foundSize lists constants r ≡ rawIn m (w - 1) maps (reach w b d s) op
   pub fits : (w : ℕ) → s .begins * s .width < w → s .drawn < w → AllFit w (d .top) r
-
--- what the raw size asks: sources that fit where not too many terms stand
-pub record RawAsked (r : Found) : Type 0 where
-  pub w : ℕ
-  pub top : ℕ
-  pub wide : w ≤ mostTermBytes
-  pub most : top ≤ mostStanding
-  pub fits : AllFit w top r
+  pub small : d .top ≤ mostStanding → RawAsked r

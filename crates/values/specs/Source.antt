@@ -6,8 +6,8 @@ use mathlib.Core.List.{List, _++_}
 use lib.ListN.{drop}
 use Rattle.poly.specs.Poly.{Poly, constant, variable, units}
 use Rattle.poly.specs.Size.{oneIf}
-use Rattle.text.specs.declared.types.Operand.{Operand}
-use Rattle.text.specs.Limits.{mostVariables}
+use Rattle.rules.specs.declared.types.Operand.{Operand}
+use Rattle.rules.specs.Limits.{mostVariables}
 use Rattle.verdict.specs.Lists.{tabulate}
 use Rattle.verdict.specs.Meaning.{operand, valueAt}
 use Rattle.verdict.specs.Instances.{polynomials}

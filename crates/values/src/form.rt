@@ -21,7 +21,7 @@ ghost use Rattle.values.specs.Load.{LayAsked, LoadAsked};
 ghost use Rattle.values.specs.Form.{PairAsked, Paired};
 
 // Lays two operands in `right`, one behind the other.
-pub fn load_pair(left: &[u8], a: Source, b: Source, right: &mut [u8], w: usize)
+pub(crate) fn load_pair(left: &[u8], a: Source, b: Source, right: &mut [u8], w: usize)
     requires { ⌜ PairAsked (now left) a b (now right) w ⌝ }
     ensures { λ _. ⌜ Paired w (now (left .entry)) a b (now (right .entry)) (now (right .exit)) ⌝ }
 {
@@ -30,7 +30,7 @@ pub fn load_pair(left: &[u8], a: Source, b: Source, right: &mut [u8], w: usize)
 }
 
 // A copy of an operand.
-pub fn form_copy(left: &mut [u8], top: usize, a: Source, right: &mut [u8], w: usize) -> usize
+pub(crate) fn form_copy(left: &mut [u8], top: usize, a: Source, right: &mut [u8], w: usize) -> usize
     requires { ⌜ LoadAsked (now left) a (now right) 0 w
         × LayAsked (now left) top (sourceSize a) w ⌝ }
     ensures { λ k. ⌜ Laid w (now (left .entry)) (now (left .exit)) top k
@@ -43,7 +43,7 @@ pub fn form_copy(left: &mut [u8], top: usize, a: Source, right: &mut [u8], w: us
 }
 
 // The sum of two operands.
-pub fn form_sum(
+pub(crate) fn form_sum(
     m: u8,
     left: &mut [u8],
     top: usize,
@@ -65,7 +65,7 @@ pub fn form_sum(
 }
 
 // The product of two operands.
-pub fn form_product(
+pub(crate) fn form_product(
     m: u8,
     left: &mut [u8],
     top: usize,
@@ -100,7 +100,7 @@ pub fn form_product(
 }
 
 // The image of an operand under map f, by its coefficients and its constant c.
-pub fn form_image(
+pub(crate) fn form_image(
     m: u8,
     lists: [[u8; 8]; 8],
     f: usize,

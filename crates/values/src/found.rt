@@ -4,7 +4,7 @@ use crate::source::Scope;
 use crate::source::Source;
 use crate::source::draw;
 use crate::source::locate;
-use text::types::Op;
+use rules::types::Op;
 ghost use Rattle.values.specs.Source.{Narrow};
 ghost use Rattle.values.specs.Raw.{Mapped};
 ghost use Rattle.values.specs.Found.{FoundFor};

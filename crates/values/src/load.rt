@@ -10,10 +10,10 @@ ghost use Rattle.values.specs.Source.{sourceOf, sourceSize};
 ghost use Rattle.values.specs.Load.{LayAsked, LoadAsked};
 
 // The most bytes of a term: its coefficient and 24 powers.
-pub const TERM_BYTES: usize = 25;
+pub(crate) const TERM_BYTES: usize = 25;
 
 // Lays variable i.
-pub fn lay_variable(b: &mut [u8], at: usize, i: usize, w: usize)
+pub(crate) fn lay_variable(b: &mut [u8], at: usize, i: usize, w: usize)
     requires { ⌜ (i + 1 < w) × LayAsked (now b) at 1 w ⌝ }
     ensures { λ _. ⌜ Laid w (now (b .entry)) (now (b .exit)) at 1 (variable (w - 1) i) ⌝ }
 {
@@ -24,7 +24,7 @@ pub fn lay_variable(b: &mut [u8], at: usize, i: usize, w: usize)
 }
 
 // Lays a constant, which has no term where it is 0.
-pub fn lay_constant(b: &mut [u8], at: usize, c: u8, w: usize)
+pub(crate) fn lay_constant(b: &mut [u8], at: usize, c: u8, w: usize)
     requires { ⌜ LayAsked (now b) at (oneIf c) w ⌝ }
     ensures { λ _. ⌜ Laid w (now (b .entry)) (now (b .exit)) at (oneIf c) (constant (w - 1) c) ⌝ }
 {
@@ -37,7 +37,7 @@ pub fn lay_constant(b: &mut [u8], at: usize, c: u8, w: usize)
 }
 
 // Lays the sum of k variables from variable i on.
-pub fn lay_variables(b: &mut [u8], at: usize, i: usize, k: usize, w: usize)
+pub(crate) fn lay_variables(b: &mut [u8], at: usize, i: usize, k: usize, w: usize)
     requires { ⌜ (i + k < w) × LayAsked (now b) at k w ⌝ }
     ensures { λ _. ⌜ Laid w (now (b .entry)) (now (b .exit)) at k (units (w - 1) i k) ⌝ }
 {
@@ -50,7 +50,7 @@ pub fn lay_variables(b: &mut [u8], at: usize, i: usize, k: usize, w: usize)
 }
 
 // Lays the k terms of another buffer from term `from` on.
-pub fn lay_stored(left: &[u8], from: usize, k: usize, b: &mut [u8], at: usize, w: usize)
+pub(crate) fn lay_stored(left: &[u8], from: usize, k: usize, b: &mut [u8], at: usize, w: usize)
     requires { ⌜ ((from + k) * w ≤ length (now left)) × LayAsked (now b) at k w ⌝ }
     ensures { λ _. ⌜ Laid w (now (b .entry)) (now (b .exit)) at k
         (termsAt w (now (left .entry)) from k) ⌝ }

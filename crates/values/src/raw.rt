@@ -4,7 +4,7 @@ use crate::shelf::Shelf;
 use crate::source::Scope;
 use crate::source::locate;
 use crate::source::size_of;
-use text::types::Operand;
+use rules::types::Operand;
 ghost use mathlib.Core.Path.{_≡_};
 ghost use Prim.Native.Nat.{_+_, _*_, _≤_};
 ghost use Rattle.poly.specs.Size.{oneIf, nonzeros};
@@ -20,7 +20,7 @@ pub fn operand_size(s: Scope, d: Shelf, a: Operand) -> usize
 }
 
 // How many of a map's coefficients are not 0.
-pub fn count_nonzero(list: [u8; 8]) -> usize
+pub(crate) fn count_nonzero(list: [u8; 8]) -> usize
     ensures { λ k. ⌜ (k ≡ nonzeros list) × (k ≤ 8) ⌝ }
 {
     let mut k = 0;
@@ -37,7 +37,7 @@ pub fn count_nonzero(list: [u8; 8]) -> usize
 
 // The raw size of an application to p terms: p for each coefficient that is not 0, and one for such
 // a constant.
-pub fn image_size(list: [u8; 8], c: u8, p: usize) -> usize
+pub(crate) fn image_size(list: [u8; 8], c: u8, p: usize) -> usize
     requires { ⌜ p ≤ mostStanding ⌝ }
     ensures { λ k. ⌜ k ≡ nonzeros list * p + oneIf c ⌝ }
 {

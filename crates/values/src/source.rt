@@ -1,9 +1,9 @@
 // Where the polynomial of an operand is to be found.
 use crate::shelf::Shelf;
-use text::types::Operand;
+use rules::types::Operand;
 ghost use mathlib.Core.Path.{_≡_};
 ghost use Prim.Native.Nat.{_*_, _<_};
-ghost use Rattle.text.specs.declared.types.Operand.the-variants.{Place};
+ghost use Rattle.rules.specs.declared.types.Operand.the-variants.{Place};
 ghost use Rattle.values.specs.Source.{Narrow, Located, sourceSize, Drawn};
 
 // A constant; the sum of some variables, the first and how many; or a value in the buffer, its
@@ -40,7 +40,7 @@ pub fn place(s: Scope, d: Shelf, i: usize) -> Source
 }
 
 // The value of an operand.
-pub fn locate(s: Scope, d: Shelf, a: Operand) -> Source
+pub(crate) fn locate(s: Scope, d: Shelf, a: Operand) -> Source
     requires { ⌜ Narrow s d ⌝ }
     ensures { λ r. ⌜ Located s d a r ⌝ }
 {
@@ -51,7 +51,7 @@ pub fn locate(s: Scope, d: Shelf, a: Operand) -> Source
 }
 
 // The variable that a rand draws; past the last it is 0.
-pub fn draw(s: Scope, v: usize) -> Source
+pub(crate) fn draw(s: Scope, v: usize) -> Source
     ensures { λ r. ⌜ Drawn s v r ⌝ }
 {
     if v < s.drawn {

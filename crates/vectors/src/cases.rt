@@ -1,118 +1,77 @@
 // The stored texts, one case behind the other: a line with the name, a tab and the number of bytes,
 // then these bytes and a line feed.
 use crate::lists::print_kept;
+use crate::lists::print_lists;
+use crate::records::print_records;
 use crate::runs::print_run;
+use crate::sbox::print_rows;
 use crate::show::print_word;
-ghost use Prim.Native.Nat.{_<_, _≤_};
-ghost use lib.ListN.{length};
-ghost use Rattle.vectors.specs.Case.{Found, Cut};
+use crate::stored;
 
-// A case: its name ends before `tab`, its text stands from `start` to `end`.
-pub struct Case {
-    pub tab: usize,
-    pub start: usize,
-    pub end: usize,
-}
+// More cases than are stored.
+const ENOUGH: usize = 100000;
 
-// The case that begins at a place; what the end of the input cuts off ends there.
-pub(crate) fn case_at(s: &[u8], at: usize) -> Case
-    requires { ⌜ at < length (now s) ⌝ }
-    ensures { λ r. ⌜ Cut at r (length (now (s .entry))) ⌝ }
-{
-    let tab = find(s, at, b'\t');
-    let feed = find(s, tab, b'\n');
-    let count = number(&s[tab..feed]);
-    let start = behind(feed, s.len());
-    let end = reach(start, count, s.len());
-    Case { tab, start, end }
-}
+// How many cases, from the first on, are handed out record by record.
+const HANDED: usize = 2;
 
-// Prints what comes of each case.
-pub(crate) fn print_cases(s: &[u8]) {
-    let mut at = 0;
+// Reads one case after another and prints what comes of each.
+pub(crate) fn print_cases() {
+    let mut at: usize = 0;
     // the cases before at are printed
-    while at < s.len() {
-        let case = case_at(s, at);
-        print_case(s, at, case);
-        at = case.end + 1;
+    while at < ENOUGH {
+        if !print_next(at) {
+            return;
+        }
+        at += 1;
     }
+}
+
+// Reads the case of this number and prints what comes of it; false where there is none.
+fn print_next(at: usize) -> bool {
+    let mut line = [0u8; 64];
+    let mut text = [0u8; 16385];
+    let n = stored::read_line(&mut line);
+    if n == 0 {
+        return false;
+    }
+    let count = stored::number(&line[..n]);
+    let end = stored::read_text(&mut text, count);
+    print_first(at, &text[..end]);
+    print_named(&line[..n], &text[..end]);
+    true
+}
+
+// Prints what comes of the first texts alone: the S-box that the first computes, and its answers in
+// buffers of their least lengths; the records of each.
+fn print_first(at: usize, text: &[u8]) {
+    if at == 0 {
+        print_rows(text);
+        print_lists(text);
+    }
+    if at < HANDED {
+        print_records(text);
+    }
+}
+
+// Prints what comes of a case with this first line.
+fn print_named(line: &[u8], text: &[u8]) {
+    let n = stored::name_len(line);
+    print_case(&line[..n], text);
 }
 
 // Prints a case's name, a tab and the line of its text; then what run answers, and what judge
 // leaves in its buffers.
-fn print_case(s: &[u8], at: usize, case: Case)
-    requires { ⌜ Cut at case (length (now s)) ⌝ }
-{
-    let tab = case.tab;
-    let start = case.start;
-    let end = case.end;
-    print_word(&s[at..tab]);
+fn print_case(name: &[u8], text: &[u8]) {
+    print_word(name);
     print_word(b"\t");
+    print_line(text);
+    print_run(name, text);
+    print_kept(name, text);
+}
+
+// Prints the line of a text.
+fn print_line(text: &[u8]) {
     let mut out = [0u8; 256];
-    let n = print::answer(&s[start..end], &mut out);
+    let n = print::answer(text, &mut out);
     print_word(&out[..n]);
-    print_run(&s[at..tab], &s[start..end]);
-    print_kept(&s[at..tab], &s[start..end]);
-}
-
-// The place behind one; at the end, the end.
-fn behind(place: usize, end: usize) -> usize
-    requires { ⌜ place ≤ end ⌝ }
-    ensures { λ r. ⌜ (place ≤ r) × (r ≤ end) × (place < end → place < r) ⌝ }
-{
-    if place < end {
-        return place + 1;
-    }
-    end
-}
-
-// The place so many bytes further, or the end.
-fn reach(place: usize, count: usize, end: usize) -> usize
-    requires { ⌜ place ≤ end ⌝ }
-    ensures { λ r. ⌜ Found place r end ⌝ }
-{
-    if end - place < count {
-        return end;
-    }
-    place + count
-}
-
-// The place of the first such byte from a place on, or the end.
-fn find(s: &[u8], from: usize, byte: u8) -> usize
-    requires { ⌜ from ≤ length (now s) ⌝ }
-    ensures { λ r. ⌜ Found from r (length (now (s .entry))) ⌝ }
-{
-    let mut i = from;
-    while i < s.len() {
-        if s[i] == byte {
-            return i;
-        }
-        i += 1;
-    }
-    i
-}
-
-// The number that the decimal digits behind a tab give; of a longer one, its low six digits.
-fn number(digits: &[u8]) -> usize
-    ensures { λ r. ⌜ r < 1000000 ⌝ }
-{
-    let mut n: usize = 0;
-    let mut i = 0;
-    while i < digits.len() {
-        n = (n * 10 + wide(digit(digits[i]))) % 1000000;
-        i += 1;
-    }
-    n
-}
-
-// The value of a decimal digit; a tab counts for nothing.
-fn digit(byte: u8) -> u8 {
-    if byte < b'0' { 0 } else { byte % 16 }
-}
-
-// A byte as a number.
-fn wide(byte: u8) -> usize
-    ensures { λ r. ⌜ r < 256 ⌝ }
-{
-    byte as usize
 }

@@ -1,5 +1,4 @@
 // The lent buffers: at their least lengths, one below and one above, and what is left in them.
-use crate::cases::case_at;
 use crate::show::end_line;
 use crate::show::print_number;
 use crate::show::print_small;
@@ -15,16 +14,8 @@ const LIST: usize = 16;
 // What every lent byte is before.
 const BEFORE: u8 = 0xff;
 
-// Prints the answers for the first stored text, with each buffer at its least length, one above and
-// one below.
-pub(crate) fn print_lists(s: &[u8]) {
-    if s.len() == 0 {
-        return;
-    }
-    let case = case_at(s, 0);
-    let start = case.start;
-    let end = case.end;
-    let text = &s[start..end];
+// Prints the answers for a text, with each buffer at its least length, and one below.
+pub(crate) fn print_lists(text: &[u8]) {
     print_judged(b"least", text, WORK, WORK, LIST);
     print_judged(b"short_list", text, WORK, WORK, LIST - 1);
     print_judged(b"short_left", text, WORK - 1, WORK, LIST);

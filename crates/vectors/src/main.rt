@@ -6,16 +6,12 @@ mod records;
 mod runs;
 mod sbox;
 mod show;
+mod stored;
 mod tables;
 
 fn main() {
-    let mut input = [0u8; 524288];
-    let n = io::read_full(libc::STDIN_FILENO, &mut input);
     tables::print_sbox();
     tables::print_coefficients();
     runs::print_maps();
-    sbox::print_run(&input[..n]);
-    lists::print_lists(&input[..n]);
-    records::print_records(&input[..n]);
-    cases::print_cases(&input[..n]);
+    cases::print_cases();
 }

@@ -1,5 +1,4 @@
-// The records of the first stored text, as they are handed out one after another.
-use crate::cases::case_at;
+// The records of a text, as they are handed out one after another.
 use crate::show::end_line;
 use crate::show::print_number;
 use crate::show::print_small;
@@ -10,22 +9,12 @@ use reader::handed::Handed;
 use reader::handed::behind;
 use reader::handed::hand_out;
 
-// More records than the first stored text has.
+// More records than each of the texts has.
 const ENOUGH: usize = 40;
 
-// Prints what is handed out at each place of the first stored text, to its end and on.
-pub(crate) fn print_records(s: &[u8]) {
-    if s.len() == 0 {
-        return;
-    }
-    let case = case_at(s, 0);
-    let start = case.start;
-    let end = case.end;
-    print_handed(&s[start..end]);
-}
-
-// Prints what is handed out at a place, then behind it, and so on.
-fn print_handed(text: &[u8]) {
+// Prints what is handed out at the first place of a text, then behind it, and so on, to its end and
+// on.
+pub(crate) fn print_records(text: &[u8]) {
     let mut at = 0;
     let mut line = 0;
     let mut i: usize = 0;

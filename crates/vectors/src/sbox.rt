@@ -1,24 +1,12 @@
-// The S-box of FIPS 197 by run of the first stored text: its original and its masked form.
-use crate::cases::case_at;
+// The S-box of FIPS 197 by run of a text: its original and its masked form.
 use crate::show::end_line;
 use crate::show::print_byte;
 use crate::show::print_digit;
 use crate::show::print_word;
 use verdict::run::run;
 
-// Prints the S-box that the first stored text computes, one row for each high digit.
-pub(crate) fn print_run(s: &[u8]) {
-    if s.len() == 0 {
-        return;
-    }
-    let case = case_at(s, 0);
-    let start = case.start;
-    let end = case.end;
-    print_rows(&s[start..end]);
-}
-
-// Prints the sixteen rows.
-fn print_rows(text: &[u8]) {
+// Prints the S-box that a text computes, one row for each high digit.
+pub(crate) fn print_rows(text: &[u8]) {
     let mut high: u8 = 0;
     while high < 16 {
         print_row(text, high);

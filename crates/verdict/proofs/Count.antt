@@ -7,8 +7,8 @@ use mathlib.Core.List.{List, [], _∷_, _++_, map}
 use lib.ListN.{length, take, replicate, length-map}
 use Rattle.poly.specs.Poly.{Poly, constant, units, variable}
 use Rattle.poly.specs.Size.{oneIf}
-use Rattle.text.specs.Read.{Routine}
-use Rattle.text.specs.Formed.{Formed}
+use Rattle.rules.specs.Read.{Routine}
+use Rattle.rules.specs.Formed.{Formed}
 use Rattle.verdict.specs.Lists.{tabulate, lots, behind, poured}
 use Rattle.verdict.specs.Meaning.{values, joined, trace, originValues, maskedValues}
 use Rattle.verdict.specs.Instances.{modulusOf, powersOf, polynomials, polynomialsOf, symbolic}

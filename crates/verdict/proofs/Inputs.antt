@@ -16,8 +16,8 @@ use Rattle.field.specs.Xor.{_⊕_}
 use Rattle.field.proofs.Laws.Xor.{⊕-zero}
 use Rattle.poly.specs.Canon.{ByteList}
 use Rattle.poly.proofs.Laws.Put.{set-bytes}
-use Rattle.text.specs.Read.{Routine}
-use Rattle.text.specs.Formed.{Each, IsByte, Formed}
+use Rattle.rules.specs.Read.{Routine}
+use Rattle.rules.specs.Formed.{Each, IsByte, Formed}
 use Rattle.verdict.specs.Lists.{lots, poured}
 use Rattle.verdict.specs.Meaning.{joined}
 use Rattle.verdict.specs.Instances.{modulusOf, bytes, bytesOf}

@@ -9,11 +9,11 @@ use mathlib.Core.List.{List}
 use lib.Dec.{ltb}
 use lib.ListN.{length}
 use borrow.Author.Tests.{ltb-false}
-use Rattle.text.specs.Read.{Routine, Reading, accepted, readText}
-use Rattle.text.specs.Formed.{Formed}
-use Rattle.text.proofs.Laws.Keeping.{Accepts}
-use Rattle.text.proofs.Laws.Formed.{read-formed}
-use Rattle.text.proofs.Laws.Reads.{or-false}
+use Rattle.rules.specs.Read.{Routine, Reading, accepted, readText}
+use Rattle.rules.specs.Formed.{Formed}
+use Rattle.rules.proofs.Laws.Keeping.{Accepts}
+use Rattle.rules.proofs.Laws.Formed.{read-formed}
+use Rattle.tokens.proofs.Laws.Flags.{or-false}
 use Rattle.verdict.specs.declared.report.Verdict.the-variants.{Differs, Refused}
 use Rattle.verdict.specs.declared.report.Report.{Report}
 use Rattle.verdict.specs.Judge.{Outcome, refused, equal, differs, unknown, workBytes, listBytes, short, shortIn}

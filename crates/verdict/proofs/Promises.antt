@@ -10,7 +10,7 @@ use mathlib.Core.List.{List}
 use lib.ListN.{length, take, drop}
 use lib.Seq.{take-at}
 use Rattle.poly.specs.First.{tried}
-use Rattle.text.specs.Read.{Routine, Reading, accepted, readText}
+use Rattle.rules.specs.Read.{Routine, Reading, accepted, readText}
 use Rattle.verdict.specs.declared.report.Verdict.{Verdict}
 use Rattle.verdict.specs.declared.report.Verdict.the-variants.{Equal, Differs, Unknown, Refused}
 use Rattle.verdict.specs.declared.report.Report.{Report}
@@ -22,12 +22,12 @@ use Rattle.verdict.specs.Judge.{workAfter, listAfter, cameOf, Judged}
 use Rattle.verdict.specs.Verdict.{placesOf, GivenUp, Decided, Equals, Differing, Unknowns, Claims, ClaimsIn}
 use Rattle.verdict.specs.Verdict.{Listed, RefusedAs}
 use Rattle.verdict.proofs.Laws.Bytes.{bytes-length}
-use Rattle.text.specs.Formed.{Formed}
-use Rattle.text.specs.Ranged.{Limited}
-use Rattle.text.proofs.Laws.Keeping.{Accepts}
-use Rattle.text.proofs.Laws.Formed.{read-formed}
-use Rattle.text.proofs.Laws.Limits.{read-limited}
-use Rattle.text.proofs.Laws.Refusing.{Numbered, read-numbered}
+use Rattle.rules.specs.Formed.{Formed}
+use Rattle.rules.specs.Ranged.{Limited}
+use Rattle.rules.proofs.Laws.Keeping.{Accepts}
+use Rattle.rules.proofs.Laws.Formed.{read-formed}
+use Rattle.rules.proofs.Laws.Limits.{read-limited}
+use Rattle.rules.proofs.Laws.Refusing.{Numbered, read-numbered}
 use Rattle.verdict.proofs.Laws.Idle.{tally-unique, idle-counts}
 use Rattle.verdict.proofs.Inputs.{unmoved-counts}
 use Rattle.verdict.proofs.Text.{outcome-claims, outcome-only}

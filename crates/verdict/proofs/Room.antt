@@ -11,9 +11,9 @@ use Rattle.field.specs.Laws.{gf}
 use Rattle.poly.specs.Poly.{Poly, constant, variable}
 use Rattle.poly.specs.First.{sum}
 use Rattle.poly.proofs.Laws.Size.{add-size}
-use Rattle.text.specs.declared.types.Statement.{Statement}
-use Rattle.text.specs.Read.{Routine}
-use Rattle.text.specs.Formed.{Each, Formed}
+use Rattle.rules.specs.declared.types.Statement.{Statement}
+use Rattle.rules.specs.Read.{Routine}
+use Rattle.rules.specs.Formed.{Each, Formed}
 use Rattle.verdict.specs.Lists.{tabulate, lots, behind, poured}
 use Rattle.verdict.specs.Meaning.{valueAt, given, values, joined, originValues, maskedValues}
 use Rattle.verdict.specs.Meaning.{resultIn, outputsIn, trace, joinedIn, differenceIn}

@@ -8,10 +8,10 @@ use native.Mathlib.Omega.{arith}
 use native.Mathlib.Decide.{ℕ-discrete}
 use mathlib.Core.List.{List, map}
 use lib.ListN.{length, take}
-use Rattle.text.specs.Read.{Routine, Reading, refused, accepted, readText}
-use Rattle.text.specs.Formed.{Each, IsByte, Formed}
-use Rattle.text.proofs.Laws.Keeping.{Accepts}
-use Rattle.text.proofs.Laws.Formed.{read-formed}
+use Rattle.rules.specs.Read.{Routine, Reading, refused, accepted, readText}
+use Rattle.rules.specs.Formed.{Each, IsByte, Formed}
+use Rattle.rules.proofs.Laws.Keeping.{Accepts}
+use Rattle.rules.proofs.Laws.Formed.{read-formed}
 use Rattle.verdict.specs.Instances.{bytesOf}
 use Rattle.verdict.specs.declared.report.Verdict.the-variants.{Equal, Differs}
 use Rattle.verdict.specs.declared.report.Report.{Report}
@@ -24,7 +24,7 @@ use Rattle.verdict.proofs.Laws.Closed.{origin-closed, masked-closed, re
 use Rattle.verdict.proofs.Laws.Value.{modulus-of}
 use Rattle.verdict.proofs.Laws.Bytes.{bytes-closed, bytes-length, bytes-of}
 use Rattle.verdict.proofs.Laws.Definition.{equivalent-agrees}
-use Rattle.text.proofs.Laws.Refusing.{Numbered, read-numbered}
+use Rattle.rules.proofs.Laws.Refusing.{Numbered, read-numbered}
 use Rattle.verdict.proofs.Laws.Ran.{run-refused, run-taken}
 use Rattle.verdict.proofs.Promises.{judged-equal, judged-differs}
 

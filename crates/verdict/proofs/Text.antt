@@ -5,10 +5,10 @@ use mathlib.Core.Path.{_≡_, refl, sym, _∙_}
 use Prim.Native.Nat.{ℕ}
 use mathlib.Core.Bool.{Bool, true, false, cond}
 use mathlib.Core.List.{List}
-use Rattle.text.specs.Read.{Reading, readText}
-use Rattle.text.specs.Formed.{Formed}
-use Rattle.text.proofs.Laws.Keeping.{Accepts}
-use Rattle.text.proofs.Laws.Formed.{read-formed}
+use Rattle.rules.specs.Read.{Reading, readText}
+use Rattle.rules.specs.Formed.{Formed}
+use Rattle.rules.proofs.Laws.Keeping.{Accepts}
+use Rattle.rules.proofs.Laws.Formed.{read-formed}
 use Rattle.verdict.specs.Judge.{Outcome, refused, judgeReading, short, outcome}
 use Rattle.verdict.specs.Verdict.{ClaimsOf, ClaimsIn}
 use Rattle.verdict.proofs.Verdict.{judge-claims, claims-unique}

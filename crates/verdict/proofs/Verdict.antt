@@ -21,14 +21,14 @@ use Rattle.poly.specs.Canon.{Within, ByteList, Some, Canon}
 use Rattle.poly.proofs.Laws.Unique.{vanishes}
 use Rattle.poly.proofs.Laws.First.{first-bytes, first-differs, first-least, first-highest, highest-bytes}
 use Rattle.poly.proofs.Laws.Least.{first-only}
-use Rattle.text.specs.Read.{Routine}
+use Rattle.rules.specs.Read.{Routine}
 use Rattle.verdict.specs.Instances.{modulusOf, powersOf, symbolic, difference}
 use Rattle.verdict.specs.Run.{resultAt, joinedAt}
 use Rattle.verdict.specs.Count.{stepAt, steps, standing, mostTerms, unknownLine}
 use Rattle.verdict.specs.Idle.{idle}
 use Rattle.verdict.specs.Judge.{Outcome, refused, equal, differs, unknown, decided, settled, judgeRoutine}
 use Rattle.verdict.specs.Verdict.{placesOf, GivenUp, Decided, Agrees, Equals, Differing, Unknowns, Claims}
-use Rattle.text.specs.Formed.{Formed}
+use Rattle.rules.specs.Formed.{Formed}
 use Rattle.verdict.proofs.Laws.Value.{modulus-of, room-for, difference-value, difference-reduced}
 use Rattle.verdict.proofs.Laws.Bytes.{bytes-length}
 use Rattle.verdict.proofs.Laws.Idle.{tally-unique, idle-counts}

@@ -6,7 +6,7 @@ use mathlib.Core.List.{List, map}
 use lib.ListN.{length, take, drop}
 use Rattle.text.specs.declared.routine.Routine as code
 use Rattle.text.specs.Routine.{mapsOf}
-use Rattle.text.specs.Limits.{mostMaps, mostStatements}
+use Rattle.rules.specs.Limits.{mostMaps, mostStatements}
 use Rattle.verdict.specs.Lists.{lots}
 use Rattle.verdict.specs.Meaning.{values, joined}
 use Rattle.verdict.specs.Instances.{bytes}

@@ -10,11 +10,11 @@ use Rattle.field.specs.Maps.{coefficientsOf}
 use Rattle.poly.specs.Poly.{Poly}
 use Rattle.poly.specs.First.{sum}
 use Rattle.poly.specs.Size.{oneIf, nonzeros}
-use Rattle.text.specs.declared.types.Op.{Op}
-use Rattle.text.specs.declared.types.Op.the-variants.{Set, Xor, Mul, App, Rand}
-use Rattle.text.specs.declared.types.Statement.{Statement}
-use Rattle.text.specs.declared.types.AffineMap.{AffineMap}
-use Rattle.text.specs.Read.{Routine}
+use Rattle.rules.specs.declared.types.Op.{Op}
+use Rattle.rules.specs.declared.types.Op.the-variants.{Set, Xor, Mul, App, Rand}
+use Rattle.rules.specs.declared.types.Statement.{Statement}
+use Rattle.rules.specs.declared.types.AffineMap.{AffineMap}
+use Rattle.rules.specs.Read.{Routine}
 use Rattle.verdict.specs.Meaning.{Trace, mapAt, operand, resultIn, outputsIn, differenceIn}
 use Rattle.verdict.specs.Instances.{modulusOf, polynomialsOf}
 

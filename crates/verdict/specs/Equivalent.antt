@@ -4,7 +4,7 @@ use mathlib.Core.Path.{_≡_}
 use Prim.Native.Nat.{ℕ, zero, suc, _*_, _-_}
 use mathlib.Core.List.{List, [], _∷_, map}
 use Rattle.poly.specs.Canon.{ByteList}
-use Rattle.text.specs.Read.{Routine}
+use Rattle.rules.specs.Read.{Routine}
 use Rattle.verdict.specs.Meaning.{originValues, maskedValues, resultIn, outputsIn, joined}
 use Rattle.verdict.specs.Instances.{bytesOf}
 

@@ -9,7 +9,7 @@ use lib.ListN.{getD, set}
 use Rattle.poly.specs.Poly.{Poly}
 use Rattle.poly.specs.Canon.{ByteList}
 use Rattle.poly.specs.Occurs.{someOccurs}
-use Rattle.text.specs.Read.{Routine}
+use Rattle.rules.specs.Read.{Routine}
 use Rattle.verdict.specs.Instances.{reducedResult}
 use Rattle.verdict.specs.Equivalent.{original}
 use Rattle.verdict.specs.Run.{resultAt}

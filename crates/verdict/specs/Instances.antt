@@ -6,7 +6,7 @@ use Rattle.field.specs.Field.{times}
 use Rattle.field.specs.Laws.{gf}
 use Rattle.field.specs.Maps.{affine, coefficientsOf}
 use Rattle.poly.specs.Poly.{Poly, constant, variable, addPoly, mulPoly, mapPoly}
-use Rattle.text.specs.Read.{Routine}
+use Rattle.rules.specs.Read.{Routine}
 use Rattle.verdict.specs.Lists.{tabulate}
 use Rattle.verdict.specs.Meaning.{Algebra, Trace, trace, resultIn, differenceIn}
 

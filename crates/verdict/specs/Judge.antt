@@ -10,7 +10,7 @@ use lib.ListN.{length, drop, replicate}
 use Rattle.field.specs.Laws.{gf}
 use Rattle.poly.specs.Poly.{Poly}
 use Rattle.poly.specs.First.{firstDiffering, tried}
-use Rattle.text.specs.Read.{Routine, Reading, readText}
+use Rattle.rules.specs.Read.{Routine, Reading, readText}
 use Rattle.verdict.specs.declared.report.Verdict.the-variants.{Equal, Differs, Unknown, Refused}
 use Rattle.verdict.specs.declared.report.Report.{Report}
 use Rattle.verdict.specs.Meaning.{differenceIn}

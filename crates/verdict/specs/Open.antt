@@ -3,7 +3,7 @@
 use Rattle.field.specs.Open.{field-open}
 use Rattle.poly.specs.First.{firstByte}
 use Rattle.poly.specs.Occurs.{occurs, someOccurs}
-use Rattle.text.specs.Open.{text-open}
+use Rattle.rules.specs.Open.{text-open}
 use Rattle.verdict.specs.Meaning.{mapAt, valueAt, operand, given, values, joined, originValues, maskedValues}
 use Rattle.verdict.specs.Meaning.{resultIn, outputsIn, trace, joinedIn, differenceIn}
 use Rattle.verdict.specs.Instances.{modulusOf, powersOf, bytes, bytesOf, polynomials, polynomialsOf, symbolic}

@@ -6,7 +6,7 @@ use mathlib.Core.Bool.{cond}
 use mathlib.Core.List.{List}
 use lib.Dec.{eqb}
 use lib.ListN.{length}
-use Rattle.text.specs.Read.{Routine, Reading, readText}
+use Rattle.rules.specs.Read.{Routine, Reading, readText}
 use Rattle.verdict.specs.declared.report.RunReport.{RunReport}
 use Rattle.verdict.specs.Meaning.{Trace, trace, resultIn, joinedIn}
 use Rattle.verdict.specs.Instances.{bytesOf}

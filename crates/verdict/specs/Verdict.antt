@@ -10,7 +10,7 @@ use mathlib.Core.List.{List}
 use lib.ListN.{length, getD}
 use Rattle.poly.specs.First.{highest, sum}
 use Rattle.poly.specs.Canon.{Within, ByteList, Before}
-use Rattle.text.specs.Read.{Routine, Reading}
+use Rattle.rules.specs.Read.{Routine, Reading}
 use Rattle.verdict.specs.declared.report.Report.{Report}
 use Rattle.verdict.specs.Instances.{symbolic, difference}
 use Rattle.verdict.specs.Equivalent.{Equivalent}

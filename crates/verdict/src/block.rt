@@ -1,15 +1,15 @@
 // The values of a block of statements on bytes, and the XOR of some of them.
+use rules::types::AffineMap;
+use rules::types::Op;
+use rules::types::Operand;
 use text::routine::Routine;
-use text::types::AffineMap;
-use text::types::Op;
-use text::types::Operand;
 ghost use mathlib.Core.Path.{_≡_};
 ghost use mathlib.Core.List.{map};
 ghost use Prim.Native.Nat.{_*_, _≤_};
 ghost use lib.ListN.{length, take};
 ghost use Rattle.tokens.specs.Limits.{mostShares};
 ghost use Rattle.text.specs.Routine.{outputsOf};
-ghost use Rattle.text.specs.Limits.{mostMaps};
+ghost use Rattle.rules.specs.Limits.{mostMaps};
 ghost use Rattle.verdict.specs.Meaning.{mapAt, valueAt, operand, given, joined};
 ghost use Rattle.verdict.specs.Instances.{bytes};
 ghost use Rattle.verdict.specs.Block.{inputValues, Begun, Roomy, Filled};

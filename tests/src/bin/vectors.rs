@@ -6,7 +6,7 @@
 use bench_tests::examples::examples;
 use bench_tests::grammar::is_allowed;
 use bench_tests::judge::judge;
-use bench_tests::printed::{lines, sbox_text, tables};
+use bench_tests::printed::{handed_text, lines, sbox_text, tables};
 use bench_tests::texts::{faults, lets, limits, standing};
 use std::fs;
 use std::io;
@@ -70,13 +70,13 @@ fn write_all(folders: &Folders) -> io::Result<usize> {
     }
     let (mut texts, mut printed) = (vec![], tables());
     let mut counts = Counts::default();
-    for case in &cases {
+    for (at, case) in cases.iter().enumerate() {
         counts.add(case);
         let header = format!("{}\t{}\n", case.name, case.text.len());
         texts.extend_from_slice(header.as_bytes());
         texts.extend_from_slice(&case.text);
         texts.push(b'\n');
-        printed.push_str(&lines(&case.name, &case.text));
+        printed.push_str(&lines(at, &case.name, &case.text));
     }
     fs::create_dir_all(&folders.out)?;
     fs::write(folders.out.join("stdin"), &texts)?;
@@ -142,9 +142,12 @@ fn without_idle(line: &str) -> Vec<&str> {
     fields
 }
 
-/// The S-box, the examples, the limits and the faults.
+/// The S-box, the text that is handed out, the examples, the limits and the faults.
 fn written_cases() -> Vec<Case> {
-    let sbox = [("sbox".to_string(), sbox_text())];
+    let first = [
+        ("sbox".to_string(), sbox_text()),
+        ("handed".to_string(), handed_text()),
+    ];
     let examples = examples()
         .into_iter()
         .map(|example| (example.name.to_string(), example.text));
@@ -154,7 +157,8 @@ fn written_cases() -> Vec<Case> {
     let formulas = lets::cases()
         .into_iter()
         .map(|(name, text, _)| (name, text));
-    sbox.into_iter()
+    first
+        .into_iter()
         .chain(examples)
         .chain(limits::both_sides())
         .chain(standing::both_sides())

@@ -171,7 +171,7 @@ pub fn every_byte() -> Vec<(String, Vec<u8>)> {
     all
 }
 
-/// Short texts: empty, blank lines, records alone, and what follows the output line.
+/// Short texts: empty, blank lines, records alone, what stands before or in place of shares, and what follows the output line.
 pub fn short_texts() -> Vec<(String, Vec<u8>)> {
     let whole = "shares\t1\norigin\nset\to\t#05\nresult\to\nmasked\nset\ty\t#05\noutput\ty\n";
     let mut all: Vec<(String, Vec<u8>)> = vec![];
@@ -179,6 +179,10 @@ pub fn short_texts() -> Vec<(String, Vec<u8>)> {
     add("empty", String::new());
     add("blank", "\n".into());
     add("blank_after_shares", "shares\t1\n\n".into());
+    add("shares_twice", format!("shares\t1\n{whole}"));
+    add("shares_missing", whole.replace("shares\t1\n", ""));
+    add("map_first", whole.replace("shares\t1\n", "map\tf\t63\t1f\t3e\t7c\tf8\tf1\te3\tc7\t8f\n"));
+    add("input_first", whole.replace("shares\t1\n", "input\tx\n"));
     add("blank_after_output", format!("{whole}\n"));
     add("record_after_output", format!("{whole}masked\n"));
     add("output_twice", format!("{whole}output\ty\n"));

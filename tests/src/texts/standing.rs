@@ -36,6 +36,15 @@ const PLACES: [Place; 20] = [
     ("masked let z mul(mul(xor(a.0,b.0),#00),a.0)", |_| 2),
 ];
 
+/// The same two parts in both orders: the raw size of the one that cancels meets the terms of the
+/// other where it comes second.
+const ORDERS: [Place; 4] = [
+    ("let z xor(mul(c,c),mul(a,b))", |k| k * k * k * k),
+    ("let z xor(mul(a,b),mul(c,c))", |k| k * k + k * k * k * k),
+    ("let z mul(xor(c,c),mul(a,b))", |k| 2 * k * k),
+    ("let z mul(mul(a,b),xor(c,c))", |k| 3 * k * k),
+];
+
 /// A text in which one place has standing plus raw of exactly `total`.
 fn with_total(shares: usize, place: &str, raw: usize, total: usize, result: &str) -> Draft {
     let mut draft = Draft::of(&format!("shares {shares}"));
@@ -124,7 +133,7 @@ fn sparse_map(random: &mut Random) -> (Map, usize) {
 pub fn both_sides() -> Vec<(String, Vec<u8>)> {
     let mut all = vec![];
     for total in [MOST_TERMS, MOST_TERMS + 1] {
-        for (at, (place, raw)) in PLACES.iter().enumerate() {
+        for (at, (place, raw)) in PLACES.iter().chain(&ORDERS).enumerate() {
             let draft = with_total(7, place, raw(7), total, "a");
             all.push((format!("terms_{total}_place_{at}"), draft.text()));
         }

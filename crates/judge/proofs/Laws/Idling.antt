@@ -8,7 +8,7 @@ use lib.ListN.{length}
 use Rattle.poly.specs.Poly.{Poly}
 use Rattle.poly.specs.Occurs.{someOccurs}
 use Rattle.text.specs.declared.routine.Routine as code
-use Rattle.text.specs.declared.types.Operand.the-variants.{Place}
+use Rattle.rules.specs.declared.types.Operand.the-variants.{Place}
 use Rattle.text.specs.Routine.{routineOf}
 use Rattle.verdict.specs.Idle.{matters, failing, idle}
 use Rattle.values.specs.declared.shelf.Shelf.{Shelf}

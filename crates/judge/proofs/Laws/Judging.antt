@@ -12,12 +12,12 @@ use lib.ListN.{length, take, drop, replicate}
 use lib.Seq.{length-take-le, take-at, drop-at}
 use Rattle.poly.specs.Poly.{Poly}
 use Rattle.text.specs.declared.read.Reading as answer
-use Rattle.text.specs.Read.{Routine, Reading, readText}
+use Rattle.rules.specs.Read.{Routine, Reading, readText}
 use Rattle.text.specs.Routine.{routineOf}
 use Rattle.text.specs.Reading.{readingOf, ReadingIs}
-use Rattle.text.specs.Ranged.{Ranged}
-use Rattle.text.proofs.Laws.Keeping.{Accepts}
-use Rattle.text.proofs.Laws.Ranged.{read-ranged}
+use Rattle.rules.specs.Ranged.{Ranged}
+use Rattle.rules.proofs.Laws.Keeping.{Accepts}
+use Rattle.rules.proofs.Laws.Ranged.{read-ranged}
 use Rattle.text.proofs.Laws.Counts.{reading-formed, reading-counted}
 use Rattle.verdict.specs.declared.report.Report.{Report}
 use Rattle.verdict.specs.Instances.{symbolic, difference}

@@ -12,22 +12,21 @@ use Rattle.poly.specs.Poly.{Poly, variable, normal}
 use Rattle.poly.specs.First.{sum}
 use Rattle.poly.specs.Canon.{Raw}
 use Rattle.poly.proofs.Laws.Normal.{canon-raw}
-use Rattle.poly.proofs.Laws.Reduced.{canon-variable, unit-spare}
 use Rattle.poly.proofs.Laws.Size.{add-size}
 use Rattle.buffer.proofs.Lent.Reads.{read-length}
 use Rattle.text.specs.declared.routine.Routine as code
-use Rattle.text.specs.declared.types.Operand.the-variants.{Place}
-use Rattle.text.specs.Read.{Routine}
+use Rattle.rules.specs.declared.types.Operand.the-variants.{Place}
+use Rattle.rules.specs.Read.{Routine}
 use Rattle.text.specs.Routine.{originOf, outputsOf, routineOf}
-use Rattle.text.specs.Formed.{Each, Formed}
+use Rattle.rules.specs.Formed.{Each, Formed}
 use Rattle.verdict.specs.Lists.{tabulate, poured}
 use Rattle.verdict.specs.Meaning.{operand, valueAt, resultIn, outputsIn, joinedIn, differenceIn}
 use Rattle.verdict.specs.Instances.{polynomials, polynomialsOf, modulusOf, powersOf, symbolic, difference}
 use Rattle.verdict.specs.Instances.{reducedResult}
 use Rattle.verdict.specs.Count.{lastStep}
-use Rattle.verdict.proofs.Laws.Lists.{each-at, each-tabulate}
+use Rattle.verdict.proofs.Laws.Lists.{each-at}
 use Rattle.verdict.proofs.Laws.Closed.{masked-closed}
-use Rattle.verdict.proofs.Laws.Value.{Reduced, modulus-of, room-for, reduced-closed, result-reduced}
+use Rattle.verdict.proofs.Laws.Value.{Reduced, modulus-of, routine-closed, variables-reduced, result-reduced}
 use Rattle.values.specs.declared.shelf.Shelf.{Shelf}
 use Rattle.values.specs.declared.source.Source.{Source}
 use Rattle.values.specs.declared.source.Scope.{Scope}
@@ -55,16 +54,11 @@ raw-places n vs h (i ∷ places) =
     (each-at (Raw n) vs [] h (record { coefs = tt; powers = tt }) i, raw-places n vs h places)
 
 raw-masked : (r : Routine) → Formed r → Each (Raw (powersOf r)) (symbolic r .masked)
-unfolding symbolic polynomialsOf
+unfolding symbolic
 raw-masked r F =
-    let v = r .variables in
-    let n = powersOf r in
-    let room : v ≤ n = room-for F in
-    let e : n ≡ v + (n - v) = omega arith in
-    raw-each v (n - v) n (symbolic r .masked)
-    (masked-closed (reduced-closed (modulus-of r) v (n - v) n e) r F (tabulate v (variable n))
-    (each-tabulate (Reduced v (n - v) n) v (variable n)
-    (λ i l. (canon-variable n i, (unit-spare v (n - v) n i e l, tt)))))
+    raw-each (r .variables) (powersOf r - r .variables) (powersOf r) (symbolic r .masked)
+    (masked-closed (routine-closed r F) r F (tabulate (r .variables) (variable (powersOf r)))
+    (variables-reduced r F))
 
 -- the difference is one sum of the terms of the result and of all outputs
 difference-terms : (r : Routine) → Formed r
@@ -279,8 +273,3 @@ module _ {r : code.Routine} (Q : Ready r) {d : Shelf} (D : Directed r d) {s t : 
         raw-by Q S k j (subst (λ (x : Scope). OperandSized x d (Place (r .result)) k) e h)
         (subst (λ (x : Scope). OutputsSized (r .outputs) (r .named) x d j) f g);
   }
-
-  -- they are small numbers
-  pub sizes-small : (k j : ℕ) → OperandSized s d (Place (r .result)) k → OutputsSized (r .outputs) (r .named) t d j
-      → k + j ≤ 9 * mostStanding
-  sizes-small k j h g = omega (arith, h .most, g .most, mul-le-mul-right mostStanding (Q .counted .outputs))

@@ -12,7 +12,7 @@ use Rattle.field.specs.Laws.{gf}
 use Rattle.poly.specs.Poly.{Poly}
 use Rattle.poly.specs.First.{firstDiffering, tried}
 use Rattle.text.specs.declared.routine.Routine as code
-use Rattle.text.specs.Read.{Routine}
+use Rattle.rules.specs.Read.{Routine}
 use Rattle.text.specs.Routine.{routineOf}
 use Rattle.verdict.specs.declared.report.Verdict.the-variants.{Equal, Differs}
 use Rattle.verdict.specs.declared.report.Report.{Report}

@@ -4,7 +4,7 @@ use mathlib.Core.Path.{_≡_, subst}
 use Prim.Native.Nat.{ℕ}
 use mathlib.Core.List.{List}
 use lib.ListN.{length, replicate, length-replicate}
-use Rattle.text.specs.Read.{readText}
+use Rattle.rules.specs.Read.{readText}
 use Rattle.verdict.specs.Judge.{Outcome, judgeReading, short, outcome, workBytes, listBytes}
 use Rattle.verdict.specs.Print.{printed}
 use Rattle.print.specs.Line.{Formed}

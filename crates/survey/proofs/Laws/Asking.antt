@@ -10,12 +10,12 @@ use mathlib.Core.List.{List, [], _∷_}
 use lib.ListN.{length, take, drop, getD, length-take}
 use lib.Seq.{getD-take, getD-drop}
 use Rattle.field.specs.Field.Modulus.{aes}
-use Rattle.text.specs.declared.types.Op.{Op}
-use Rattle.text.specs.declared.types.Op.the-variants.{Set, Xor, Mul, App, Rand}
-use Rattle.text.specs.declared.types.Statement.{Statement}
+use Rattle.rules.specs.declared.types.Op.{Op}
+use Rattle.rules.specs.declared.types.Op.the-variants.{Set, Xor, Mul, App, Rand}
+use Rattle.rules.specs.declared.types.Statement.{Statement}
 use Rattle.text.specs.declared.routine.Routine as code
 use Rattle.text.specs.Routine.{mapsOf, originOf, maskedOf, routineOf}
-use Rattle.text.specs.Ranged.{ReadsOp, ReadsAbove}
+use Rattle.rules.specs.Ranged.{ReadsOp, ReadsAbove}
 use Rattle.values.specs.declared.shelf.Shelf.{Shelf}
 use Rattle.values.specs.declared.source.Scope.{Scope}
 use Rattle.survey.specs.declared.walk.Walk.{Walk}

@@ -12,9 +12,9 @@ use lib.Dec.{ltb}
 use lib.ListN.{length, take, getD, length-append}
 use lib.Seq.{take-append-seam, getD-append-seam}
 use Rattle.poly.specs.Poly.{Poly}
-use Rattle.text.specs.declared.types.Statement.{Statement}
-use Rattle.text.specs.declared.types.AffineMap.{AffineMap}
-use Rattle.text.specs.Read.{Routine}
+use Rattle.rules.specs.declared.types.Statement.{Statement}
+use Rattle.rules.specs.declared.types.AffineMap.{AffineMap}
+use Rattle.rules.specs.Read.{Routine}
 use Rattle.verdict.specs.Meaning.{Algebra, given, values}
 use Rattle.verdict.specs.Instances.{polynomials, modulusOf, powersOf}
 use Rattle.verdict.specs.Count.{Step, rawSize, blockSteps, standing, firstOver}

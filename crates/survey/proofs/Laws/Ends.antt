@@ -7,8 +7,8 @@ use mathlib.Core.List.{List, [], _++_, append-nil}
 use lib.ListN.{drop}
 use lib.Seq.{drop-length}
 use Rattle.poly.specs.Poly.{Poly}
-use Rattle.text.specs.declared.types.Statement.{Statement}
-use Rattle.text.specs.declared.types.AffineMap.{AffineMap}
+use Rattle.rules.specs.declared.types.Statement.{Statement}
+use Rattle.rules.specs.declared.types.AffineMap.{AffineMap}
 use Rattle.verdict.specs.Meaning.{values}
 use Rattle.verdict.specs.Instances.{polynomials}
 use Rattle.values.specs.declared.shelf.Shelf.{Shelf}

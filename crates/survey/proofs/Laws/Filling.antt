@@ -3,30 +3,30 @@
 use mathlib.Core.Path.{_≡_, refl, sym, ap, ap₂, _∙_}
 use Prim.Native.Nat.{ℕ, zero, suc, _+_, _≤_, _<_}
 use native.Mathlib.Omega.{arith}
-use native.Mathlib.Decide.{ℕ-discrete}
+use native.Mathlib.Decide.{ℕ-discrete, decLt}
 use mathlib.Core.List.{List, [], _∷_}
 use lib.ListN.{length, take, getD, set, replicate, length-take, length-set, length-replicate, getD-replicate}
 use lib.ListN.{List·getD-eq-default}
-use lib.Seq.{getD-set-same, getD-set-other, ext-getD}
-use Rattle.field.specs.Field.{Modulus, times, squared}
+use lib.Seq.{getD-set-same, getD-set-other, getD-take, ext-getD}
+use Rattle.field.specs.Field.{times, squared}
 use Rattle.field.specs.Maps.{listOf, dualOf, coefficient, coefficients, coefficientsOf}
-use Rattle.field.proofs.Laws.Algebra.{zero-mul}
+use Rattle.field.proofs.Laws.Linear.{at-zero}
+use Rattle.field.proofs.Laws.Product.{times-left}
 use Rattle.field.proofs.Laws.Sums.{sum-cong, sum-zero}
-use Rattle.field.proofs.Laws.Field.{gf-laws}
-use Rattle.text.specs.declared.types.AffineMap.{AffineMap}
+use Rattle.rules.specs.declared.types.AffineMap.{AffineMap}
 use Rattle.verdict.specs.Meaning.{mapAt}
+use Rattle.verdict.proofs.Laws.Parts.{getD-front}
 use Rattle.survey.specs.Table.{Listed, Constants}
 use Rattle.values.specs.Raw.{Tabled}
 
--- one place more
-filled-more : {X : Type 0} (l : List X) (g : ℕ → X) (f : ℕ) (v d : X) → f < length l → v ≡ g f
-    → ((i : ℕ) → i < f → getD l i d ≡ g i)
-    → (i : ℕ) → i < f + 1 → getD (set l f v) i d ≡ g i
-filled-more {X} l g f v d k e h i n = go (ℕ-discrete i f)
+-- after a store each place has its value, if the other places had theirs
+set-at : {X : Type 0} (l : List X) (g : ℕ → X) (f : ℕ) (v d : X) → f < length l → v ≡ g f
+    → (i : ℕ) → ((i ≡ f → ⊥) → getD l i d ≡ g i) → getD (set l f v) i d ≡ g i
+set-at l g f v d k e i h = go (ℕ-discrete i f)
   where
     go : Dec (i ≡ f) → getD (set l f v) i d ≡ g i
     go (yes q) = ap (λ (x : ℕ). getD (set l f v) x d) q ∙ getD-set-same l f v d k ∙ e ∙ ap g (sym q)
-    go (no q) = getD-set-other l f i v d q ∙ h i (omega arith)
+    go (no q) = getD-set-other l f i v d q ∙ h q
 
 -- ---- the coefficients of a map that is 0 everywhere
 
@@ -35,49 +35,71 @@ unfolding listOf
 zeros-list zero g h = refl
 zeros-list (suc n) g h = ap₂ _∷_ (h 0) (zeros-list n (λ i. g (suc i)) (λ j. h (suc j)))
 
-zero-coefficients : {m : ℕ} → Modulus m → coefficientsOf m (replicate 8 0) ≡ replicate 8 0
+-- 0 times a byte, over any modulus
+zero-times : (m b : ℕ) → times m 0 b ≡ 0
+zero-times m b = at-zero (λ a. times m a b) (times-left m b .spread)
+
+-- they are 0, over any modulus
+zero-coefficients : (m : ℕ) → coefficientsOf m (replicate 8 0) ≡ replicate 8 0
 unfolding coefficientsOf coefficients coefficient
-zero-coefficients {m} M =
+zero-coefficients m =
     zeros-list 8 (coefficient (times m) (dualOf m) (replicate 8 0))
     (λ j. sum-cong 8 (λ i l.
     ap (λ (x : ℕ). times m x (squared (times m) j (getD (dualOf m) i 0))) (getD-replicate 8 i 0 0 l)
-    ∙ zero-mul (gf-laws M .ring) (squared (times m) j (getD (dualOf m) i 0))) ∙ sum-zero 8)
+    ∙ zero-times m (squared (times m) j (getD (dualOf m) i 0))) ∙ sum-zero 8)
 
--- past the last map they are 0
-pub listed-past : (m : ℕ) (maps : List AffineMap) (count f : ℕ) → Modulus m → count ≤ f
-    → replicate 8 0 ≡ coefficientsOf m (mapAt (take count maps) f .columns)
+-- ---- the tables of the first f maps
+
+-- the next map changes no other place
+map-kept : (maps : List AffineMap) (f i : ℕ) → (i ≡ f → ⊥) → mapAt (take f maps) i ≡ mapAt (take (f + 1) maps) i
 unfolding mapAt
-listed-past m maps count f M h =
-    sym (ap (λ (x : AffineMap). coefficientsOf m (x .columns))
-    (List·getD-eq-default (take count maps) _ (rw length-take (omega arith))) ∙ zero-coefficients M)
-
--- ---- the tables
+map-kept maps f i q = go (decLt i f)
+  where
+    go : Dec (i < f) → mapAt (take f maps) i ≡ mapAt (take (f + 1) maps) i
+    go (yes h) = getD-take f maps i _ h ∙ sym (getD-take (f + 1) maps i _ (omega arith))
+    go (no h) =
+        List·getD-eq-default (take f maps) _ (rw length-take (omega arith))
+        ∙ sym (List·getD-eq-default (take (f + 1) maps) _ (rw length-take (omega arith)))
 
 -- no map is listed yet
-pub listed-none : (m : ℕ) (maps : List AffineMap) (lists : List (List ℕ)) → length lists ≡ 8 → Listed m maps lists 0
-listed-none m maps lists e = record { size = e; rows = λ f h. absurd (omega arith) }
+pub listed-none : (m : ℕ) (maps : List AffineMap) → Listed m (take 0 maps) (replicate 8 (replicate 8 0)) 8
+unfolding mapAt
+listed-none m maps = record {
+  size = refl;
+  rows = λ f h. getD-replicate 8 f (replicate 8 0) [] h ∙ sym (zero-coefficients m);
+}
 
 -- one map's coefficients more
 pub listed-more : (m : ℕ) (maps : List AffineMap) (lists : List (List ℕ)) (f : ℕ) (row : List ℕ) → f < 8
-    → row ≡ coefficientsOf m (mapAt maps f .columns)
-    → Listed m maps lists f → Listed m maps (set lists f row) (f + 1)
+    → row ≡ coefficientsOf m (mapAt (take (f + 1) maps) f .columns)
+    → Listed m (take f maps) lists 8 → Listed m (take (f + 1) maps) (set lists f row) 8
 listed-more m maps lists f row h e l = record {
   size = length-set lists f row ∙ l .size;
-  rows = filled-more lists (λ i. coefficientsOf m (mapAt maps i .columns)) f row [] (omega (arith, l .size)) e
-      (l .rows);
+  rows = λ i n. set-at lists (λ j. coefficientsOf m (mapAt (take (f + 1) maps) j .columns)) f row []
+      (omega (arith, l .size)) e i
+      (λ q. l .rows i n ∙ ap (λ (x : AffineMap). coefficientsOf m (x .columns)) (map-kept maps f i q));
 }
 
 -- no constant is listed yet
-pub constants-none : (maps : List AffineMap) (constants : List ℕ) → length constants ≡ 8 → Constants maps constants 0
-constants-none maps constants e = record { size = e; entries = λ f h. absurd (omega arith) }
+pub constants-none : (maps : List AffineMap) → Constants (take 0 maps) (replicate 8 0) 8
+unfolding mapAt
+constants-none maps = record { size = refl; entries = λ f h. getD-replicate 8 f 0 0 h }
 
 -- one map's constant more
-pub constants-more : (maps : List AffineMap) (constants : List ℕ) (f c : ℕ) → f < 8 → c ≡ mapAt maps f .constant
-    → Constants maps constants f → Constants maps (set constants f c) (f + 1)
+pub constants-more : (maps : List AffineMap) (constants : List ℕ) (f c : ℕ) → f < 8
+    → c ≡ mapAt (take (f + 1) maps) f .constant
+    → Constants (take f maps) constants 8 → Constants (take (f + 1) maps) (set constants f c) 8
 constants-more maps constants f c h e l = record {
   size = length-set constants f c ∙ l .size;
-  entries = filled-more constants (λ i. mapAt maps i .constant) f c 0 (omega (arith, l .size)) e (l .entries);
+  entries = λ i n. set-at constants (λ j. mapAt (take (f + 1) maps) j .constant) f c 0 (omega (arith, l .size)) e i
+      (λ q. l .entries i n ∙ ap (λ (x : AffineMap). x .constant) (map-kept maps f i q));
 }
+
+-- the next map is the one that is read
+pub map-next : (maps : List AffineMap) (f : ℕ) (d : AffineMap) → f < length maps
+    → getD maps f d ≡ mapAt (take (f + 1) maps) f
+unfolding mapAt
+map-next maps f d h = getD-front (f + 1) maps f d _ (omega arith) h
 
 -- both tables are what a walk asks
 pub tabled : (m : ℕ) (maps : List AffineMap) (lists : List (List ℕ)) (constants : List ℕ) → Listed m maps lists 8
@@ -102,7 +124,7 @@ pub clearing-more : (b₀ b : List ℕ) (i : ℕ) → i < length b → Clearing 
 clearing-more b₀ b i h c = record {
   within = omega (arith, c .size);
   size = length-set b i 0 ∙ c .size;
-  zeros = filled-more b (λ j. 0) i 0 0 h refl (c .zeros);
+  zeros = λ j n. set-at b (λ k. 0) i 0 0 h refl j (λ q. c .zeros j (omega arith));
 }
 
 -- every byte is zero

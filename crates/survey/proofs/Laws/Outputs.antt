@@ -13,11 +13,11 @@ use Rattle.field.proofs.Laws.Field.{gf-laws}
 use Rattle.poly.specs.Poly.{Poly, normal, addPoly, into}
 use Rattle.poly.specs.Canon.{Raw}
 use Rattle.poly.proofs.Laws.Sum.{raw-append, sum-normal-right}
-use Rattle.text.specs.Formed.{Each}
+use Rattle.rules.specs.Formed.{Each}
 use Rattle.verdict.specs.Lists.{poured}
 use Rattle.verdict.specs.Meaning.{joined, operand, valueAt}
 use Rattle.verdict.specs.Instances.{polynomials}
-use Rattle.text.specs.declared.types.Operand.the-variants.{Place}
+use Rattle.rules.specs.declared.types.Operand.the-variants.{Place}
 use Rattle.buffer.proofs.Lent.Strides.{row-count}
 use Rattle.values.specs.declared.shelf.Shelf.{Shelf}
 use Rattle.values.specs.declared.source.Source.{Source}

@@ -1,33 +1,31 @@
 -- One statement by the rules: where the limit is exceeded, and that no value has more terms than its raw size.
 -- Assumes nothing.
 use mathlib.Core.Path.{_≡_, sym, ap, _∙_}
-use Prim.Native.Nat.{ℕ, suc, _+_, _-_, _≤_, _<_}
+use Prim.Native.Nat.{ℕ, _+_, _-_, _≤_, _<_}
 use native.Mathlib.Omega.{arith}
-use native.Mathlib.Numerals.{add-one}
 use native.Mathlib.Decide.{decLt}
 use borrow.Author.Tests.{lt-ltb, le-ltb}
 use mathlib.Core.Bool.{Bool, cond}
 use mathlib.Core.List.{List, [], _∷_, _++_}
 use mathlib.Core.Option.{Option, none, some}
-use lib.ListN.{length, getD}
-use lib.Seq.{drop-cons}
+use lib.ListN.{length}
 use Rattle.field.specs.Field.{Modulus}
 use Rattle.field.specs.Laws.{gf}
 use Rattle.field.specs.Maps.{coefficientsOf}
 use Rattle.field.proofs.Laws.Field.{gf-laws}
 use Rattle.poly.specs.Poly.{Poly, variable}
 use Rattle.poly.proofs.Laws.Size.{add-size, mul-size, map-size}
-use Rattle.text.specs.declared.types.Op.{Op}
-use Rattle.text.specs.declared.types.Op.the-variants.{Set, Xor, Mul, App, Rand}
-use Rattle.text.specs.declared.types.Statement.{Statement}
-use Rattle.text.specs.declared.types.AffineMap.{AffineMap}
+use Rattle.rules.specs.declared.types.Op.{Op}
+use Rattle.rules.specs.declared.types.Op.the-variants.{Set, Xor, Mul, App, Rand}
+use Rattle.rules.specs.declared.types.Statement.{Statement}
+use Rattle.rules.specs.declared.types.AffineMap.{AffineMap}
 use Rattle.verdict.specs.Meaning.{mapAt, operand, given, valueAt}
 use Rattle.verdict.specs.Instances.{polynomials}
 use Rattle.verdict.specs.Count.{applySize}
 use Rattle.values.specs.declared.source.Scope.{Scope}
 use Rattle.values.specs.Source.{variablesOf}
 use Rattle.values.specs.Raw.{rawIn}
-use Rattle.survey.specs.Walk.{overIn, blank, part}
+use Rattle.survey.specs.Walk.{overIn, part}
 use Rattle.values.proofs.Laws.Tables.{tabulate-at, tabulate-past}
 
 module _ (most m n : ℕ) (maps : List AffineMap) (xs vs : List Poly) (top : ℕ) (t : Statement)
@@ -72,13 +70,6 @@ given-small m n M maps s vs (App f a) =
     map-size (gf m) (gf-laws M) n (mapAt maps f .constant) (coefficientsOf m (mapAt maps f .columns))
     (operand (polynomials m n) vs a)
 given-small m n M maps s vs (Rand v) = drawn-small m n s v (decLt v (s .drawn))
-
--- the first of the statements from i to `to`
-pub part-first : (l : List Statement) (i to : ℕ) → i < to → i < length l
-    → part l i to ≡ getD l i blank ∷ part l (i + 1) to
-part-first l i to h k =
-    let e : to - i ≡ suc (to - (i + 1)) = omega arith in
-    rw (e, drop-cons l i blank k, add-one)
 
 -- no statement is left
 pub over-none : (most m n : ℕ) (maps : List AffineMap) (xs vs : List Poly) (top : ℕ) (l : List Statement) (to : ℕ)

@@ -12,7 +12,7 @@ use lib.Dec.{ltb}
 use lib.ListN.{length, take, drop}
 use lib.Seq.{take-all, take-append-add}
 use Rattle.poly.specs.Poly.{Poly}
-use Rattle.text.specs.declared.types.Statement.{Statement}
+use Rattle.rules.specs.declared.types.Statement.{Statement}
 use Rattle.text.specs.declared.routine.Routine as code
 use Rattle.text.specs.Routine.{mapsOf, originOf, maskedOf, routineOf}
 use Rattle.verdict.specs.Meaning.{values}

@@ -4,7 +4,7 @@ use mathlib.Core.Path.{_≡_, sym, ap, ap₂, _∙_, subst}
 use Prim.Native.Nat.{ℕ, _*_, _≤_}
 use mathlib.Core.List.{List, map}
 use Rattle.poly.specs.Poly.{Poly, variable}
-use Rattle.text.specs.Read.{Routine}
+use Rattle.rules.specs.Read.{Routine}
 use Rattle.verdict.specs.Lists.{tabulate, lots}
 use Rattle.verdict.specs.Meaning.{values, joined, originValues, maskedValues, trace}
 use Rattle.verdict.specs.Instances.{polynomials, polynomialsOf, modulusOf, powersOf, symbolic}

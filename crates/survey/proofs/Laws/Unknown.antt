@@ -9,7 +9,7 @@ use mathlib.Core.Option.{none, some}
 use lib.Dec.{ltb}
 use lib.ListN.{length}
 use Rattle.poly.specs.Poly.{Poly}
-use Rattle.text.specs.Read.{Routine}
+use Rattle.rules.specs.Read.{Routine}
 use Rattle.verdict.specs.Meaning.{Trace, values}
 use Rattle.verdict.specs.Instances.{polynomials, modulusOf, powersOf}
 use Rattle.verdict.specs.Count.{Step, blockSteps, lastStep, steps, standing, mostTerms, firstOver, unknownLine}

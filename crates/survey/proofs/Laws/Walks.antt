@@ -10,9 +10,9 @@ use lib.ListN.{length, take, drop, getD}
 use lib.Seq.{drop-append-le, take-append-le}
 use Rattle.poly.specs.Poly.{Poly}
 use Rattle.buffer.proofs.Lent.Reads.{read-length}
-use Rattle.text.specs.declared.types.Op.{Op}
-use Rattle.text.specs.declared.types.Statement.{Statement}
-use Rattle.text.specs.declared.types.AffineMap.{AffineMap}
+use Rattle.rules.specs.declared.types.Op.{Op}
+use Rattle.rules.specs.declared.types.Statement.{Statement}
+use Rattle.rules.specs.declared.types.AffineMap.{AffineMap}
 use Rattle.verdict.specs.Meaning.{given, values}
 use Rattle.verdict.specs.Instances.{polynomials}
 use Rattle.values.specs.declared.shelf.Shelf.{Shelf}
@@ -26,7 +26,8 @@ use Rattle.values.specs.Value.{FormAsked}
 use Rattle.survey.specs.Walk.{overIn, topIn, blank, part, WalkAsked, Holds, Walked}
 use Rattle.values.proofs.Laws.Tables.{tabulate-length}
 use Rattle.values.proofs.Laws.Shelves.{shelved-sound, stored-more}
-use Rattle.survey.proofs.Laws.Steps.{over-here, over-next, over-none, given-small, part-first}
+use Rattle.survey.proofs.Laws.Steps.{over-here, over-next, over-none, given-small}
+use Rattle.verdict.proofs.Laws.Parts.{part-first}
 
 -- ---- the values that are visible, one more
 
@@ -86,7 +87,7 @@ module _ {m : ℕ} {lists : List (List ℕ)} {constants : List ℕ} {maps : List
     }
 
     here : part statements i to ≡ getD statements i blank ∷ part statements (i + 1) to
-    here = part-first statements i to l (omega (arith, Q .inside))
+    here = part-first statements i to blank l (omega (arith, Q .inside))
 
     -- its operands can be found
     pub find-asked : Narrow s d × Mapped op
@@ -94,13 +95,7 @@ module _ {m : ℕ} {lists : List (List ℕ)} {constants : List ℕ} {maps : List
 
     -- its raw size can be counted
     pub raw-asked : {f : Found} → FoundFor s d op f → RawAsked f
-    raw-asked z = record {
-      w = w;
-      top = d .top;
-      wide = Q .work .most;
-      most = omega (arith, H .top, Q .bounded);
-      fits = z .fits w (Q .wide) (Q .drawn);
-    }
+    raw-asked z = z .small (omega (arith, H .top, Q .bounded))
 
     -- over the limit
     pub walk-over : {f : Found} {k : ℕ} → FoundFor s d op f → k ≡ foundSize lists constants f → most - d .top < k

@@ -1,7 +1,7 @@
 -- What the loop holds behind a statement stands for what the definition says. Assumes nothing.
 use Prim.Native.Nat.{ℕ, _+_, _≤_, _<_}
 use native.Mathlib.Omega.{arith}
-use mathlib.Core.Path.{_≡_, refl, sym, _∙_, ap}
+use mathlib.Core.Path.{_≡_, refl, _∙_, ap}
 use mathlib.Core.Bool.{Bool, true, false, cond}
 use mathlib.Core.List.{List}
 use lib.Dec.{eqb}
@@ -10,17 +10,19 @@ use lib.Seq.{take-set-le}
 use borrow.Author.Tests.{eqb-false}
 use Rattle.grammar.specs.declared.line.NameRef.{NameRef}
 use Rattle.grammar.specs.Line.{nameIn}
-use Rattle.text.specs.declared.types.Statement.{Statement}
+use Rattle.rules.specs.declared.types.Statement.{Statement}
 use Rattle.text.specs.declared.step.Put.the-variants.{Stated}
-use Rattle.text.specs.Order.{inMasked}
-use Rattle.text.specs.Grown.{withOrigin, withMasked}
-use Rattle.text.specs.Limits.{originFrom, maskedFrom}
-use Rattle.text.specs.Names.{namesIn, put}
-use Rattle.text.specs.Known.{Kept, kept, stateIn, Sound, Sized, StatementFits, originAdded, maskedAdded, stated}
-use Rattle.text.specs.Known.{arrays, after}
+use Rattle.rules.specs.Order.{inMasked}
+use Rattle.rules.specs.Stated.{withOrigin, withMasked}
+use Rattle.rules.specs.Limits.{originFrom, maskedFrom}
+use Rattle.lookup.specs.Names.{namesIn, put}
+use Rattle.text.specs.Known.{Kept, kept, arrays, stateIn, Sound, Sized}
+use Rattle.text.specs.Added.{StatementFits, originAdded, maskedAdded, stated}
+use Rattle.text.specs.Stored.{after}
 use Rattle.text.specs.Taken.{stepOf}
-use Rattle.text.proofs.Laws.Arrays.{front-more, rest-more}
-use Rattle.text.proofs.Laws.Named.{listed-apart, listed-next}
+use Rattle.lookup.proofs.Laws.Arrays.{front-more, rest-more}
+use Rattle.lookup.proofs.Laws.Named.{listed-apart, listed-next}
+use Rattle.text.proofs.Laws.States.{take-none, state-same}
 
 module _ (s : List ℕ) (h : Kept) (K : Sound (h .known)) (Z : Sized h) (drawn : ℕ) (x : NameRef) (st : Statement)
     (f : StatementFits (h .known) drawn) where
@@ -48,22 +50,9 @@ module _ (s : List ℕ) (h : Kept) (K : Sound (h .known)) (Z : Sized h) (drawn :
       listed-apart t (originFrom + o) x s maskedFrom (k .parts) (λ i a b q. omega (arith, few, a, q)) in
       let mine =
       ap (λ (i : ℕ). take (k .origin + 1) (set ss i st)) at ∙ front-more ss st (k .origin) room in
-      let others : take (k .masked) (drop (k .origin + 1) (set ss (k .origin + k .masked) st))
-      ≡ take (k .masked) (drop (k .origin) ss) =
-      ap (λ (n : ℕ). take n (drop (k .origin + 1) (set ss (k .origin + k .masked) st))) z
-      ∙ sym (ap (λ (n : ℕ). take n (drop (k .origin) ss)) z) in
-      λ i. record {
-        stage = k .stage;
-        shares = k .shares;
-        mapNames = maps i;
-        maps = take (k .mapped) (h .arrays .maps);
-        inputs = k .inputs;
-        variables = k .variables;
-        origin = record { names = origin i; statements = mine i };
-        masked = record { names = masked i; statements = others i };
-        result = k .result;
-        outputs = take (k .named) (k .outputs);
-      }
+      let others =
+      take-none (k .masked) (drop (k .origin + 1) (set ss (k .origin + k .masked) st)) (drop (k .origin) ss) z in
+      state-same k (k .inputs) (k .variables) maps refl origin mine masked others
 
   masked-means : stateIn s (held true) ≡ withMasked drawn (nameIn s x) st (stateIn s h)
   unfolding held stateIn withMasked namesIn
@@ -81,18 +70,7 @@ module _ (s : List ℕ) (h : Kept) (K : Sound (h .known)) (Z : Sized h) (drawn :
       let masked = listed-next s t x maskedFrom p (omega (arith, few)) (Z .names) in
       let others = take-set-le (k .origin) ss (k .origin + k .masked) st (omega arith) in
       let mine = rest-more ss st (k .origin) (k .masked) room in
-      λ i. record {
-        stage = k .stage;
-        shares = k .shares;
-        mapNames = maps i;
-        maps = take (k .mapped) (h .arrays .maps);
-        inputs = k .inputs;
-        variables = k .variables + drawn;
-        origin = record { names = origin i; statements = others i };
-        masked = record { names = masked i; statements = mine i };
-        result = k .result;
-        outputs = take (k .named) (k .outputs);
-      }
+      state-same k (k .inputs) (k .variables + drawn) maps refl origin others masked mine
 
   by : (b : Bool) → eqb (h .known .stage) inMasked ≡ b → h .known .stage ≤ inMasked
       → stateIn s (held b)

@@ -5,15 +5,15 @@ use mathlib.Core.Path.{_≡_, sym, _∙_, subst}
 use mathlib.Core.List.{List}
 use borrow.Author.Tests.{eq-eqb}
 use Rattle.text.specs.declared.read.Reading as answer
-use Rattle.text.specs.Read.{Routine, Reading, accepted, readText}
+use Rattle.rules.specs.Read.{Routine, Reading, accepted, readText}
 use Rattle.text.specs.Routine.{routineOf, Counted}
 use Rattle.text.specs.Reading.{readingOf, ReadingIs}
-use Rattle.text.specs.Formed.{Formed}
-use Rattle.text.specs.Ranged.{Ranged, Limited}
-use Rattle.text.proofs.Laws.Keeping.{Accepts}
-use Rattle.text.proofs.Laws.Formed.{read-formed}
-use Rattle.text.proofs.Laws.Ranged.{read-ranged}
-use Rattle.text.proofs.Laws.Limits.{read-limited}
+use Rattle.rules.specs.Formed.{Formed}
+use Rattle.rules.specs.Ranged.{Ranged, Limited}
+use Rattle.rules.proofs.Laws.Keeping.{Accepts}
+use Rattle.rules.proofs.Laws.Formed.{read-formed}
+use Rattle.rules.proofs.Laws.Ranged.{read-ranged}
+use Rattle.rules.proofs.Laws.Limits.{read-limited}
 
 -- an accepted text
 pub reading-accepted : (r : answer.Reading) → r .refusal ≡ 0 → readingOf r ≡ accepted (routineOf (r .routine))

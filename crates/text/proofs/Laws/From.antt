@@ -13,10 +13,10 @@ use Rattle.reader.specs.Handed.{opened}
 use Rattle.tokens.specs.Ascii.{lineFeed}
 use Rattle.tokens.specs.Split.{pieces}
 use Rattle.reader.proofs.Laws.Handed.{placed-same}
-use Rattle.text.specs.Limits.{mostBytes}
-use Rattle.text.specs.State.{start}
+use Rattle.rules.specs.Limits.{mostBytes}
+use Rattle.rules.specs.State.{start}
 use Rattle.text.specs.declared.read.Reading as answer
-use Rattle.text.specs.Read.{Reading, refused, takeLines, readText}
+use Rattle.rules.specs.Read.{Reading, refused, takeLines, readText}
 use Rattle.text.specs.Reading.{ReadingIs}
 use Rattle.text.specs.From.{readFrom, ReadsOn}
 

@@ -13,8 +13,8 @@ use Rattle.grammar.specs.Line.{piecesIn, fieldIn}
 use Rattle.grammar.specs.Record.{Record, recordFor, nests}
 use Rattle.tokens.specs.Word.{wordOf}
 use Rattle.reader.specs.Reader.{Given, given, refused, ended, formed, bytesOf, lineGiven}
-use Rattle.text.specs.State.{State}
-use Rattle.text.specs.Read.{Outcome, stop, firstOf, unless, takeRecord, takePieces, takeLine}
+use Rattle.rules.specs.State.{State}
+use Rattle.rules.specs.Read.{Outcome, stop, firstOf, unless, takeRecord, takePieces, takeLine}
 
 -- what a line of the word w leads to, by what is handed out for it
 abbrev pub takeGiven : State → ℕ → Word → Given → Outcome

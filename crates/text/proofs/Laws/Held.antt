@@ -4,7 +4,7 @@ use mathlib.Core.Path.{_≡_, sym, subst}
 use Rattle.text.specs.declared.routine.Routine.{Routine}
 use Rattle.text.specs.Routine.{nothing}
 use Rattle.text.specs.declared.read.Reading.{Reading}
-use Rattle.text.specs.Read.{refused}
+use Rattle.rules.specs.Read.{refused}
 use Rattle.text.specs.Reading.{readingOf, Held}
 use borrow.Author.Tests.{ne-eqb}
 

@@ -3,24 +3,27 @@ use Prim.Native.Nat.{ℕ, _+_, _≤_, _<_}
 use native.Mathlib.Omega.{arith}
 use mathlib.Core.Path.{_≡_, refl, _∙_, ap}
 use mathlib.Core.List.{List, [], _∷_, _++_}
-use lib.ListN.{length, take, drop}
+use lib.ListN.{length}
 use Rattle.grammar.specs.declared.line.NameRef.{NameRef}
 use Rattle.tokens.specs.Token.{Name}
 use Rattle.grammar.specs.Line.{nameIn}
-use Rattle.text.specs.declared.types.AffineMap.{AffineMap}
+use Rattle.rules.specs.declared.types.AffineMap.{AffineMap}
 use Rattle.text.specs.declared.known.Known.{Known}
 use Rattle.text.specs.declared.step.Put.the-variants.{Nothing, Map, Input, Stated, Let}
 use Rattle.text.specs.declared.step.Put.{Put}
-use Rattle.text.specs.Grown.{withMap, withInput}
-use Rattle.text.specs.Scope.{shareNames}
-use Rattle.text.specs.Limits.{mostMaps, mostNumbers, originFrom, maskedFrom}
-use Rattle.text.specs.Names.{listed, namesIn, put}
-use Rattle.text.specs.Known.{Kept, stateIn, Sound, Sized, InputFits, inputAdded, tableAfter, after}
+use Rattle.rules.specs.Grown.{withMap, withInput}
+use Rattle.rules.specs.Scope.{shareNames}
+use Rattle.rules.specs.Limits.{mostMaps, mostNumbers, originFrom, maskedFrom}
+use Rattle.lookup.specs.Names.{listed, namesIn, put}
+use Rattle.text.specs.Known.{Kept, stateIn, Sound, Sized}
+use Rattle.text.specs.Added.{InputFits, inputAdded}
+use Rattle.text.specs.Stored.{tableAfter, after}
 use Rattle.text.specs.Taken.{stepOf}
-use Rattle.text.proofs.Laws.Arrays.{front-more}
+use Rattle.lookup.proofs.Laws.Arrays.{front-more}
+use Rattle.text.proofs.Laws.States.{state-same}
 use Rattle.text.proofs.Laws.Lets.{let-size}
-use Rattle.text.proofs.Laws.Named.{put-length, listed-apart, listed-next}
-use Rattle.text.proofs.Laws.Shares.{shares-length, shares-apart, listed-shares}
+use Rattle.lookup.proofs.Laws.Named.{put-length, listed-apart, listed-next}
+use Rattle.lookup.proofs.Laws.Shares.{shares-length, shares-apart, listed-shares}
 
 -- the table keeps its size
 pub table-length : (t : List ℕ) (k : Known) (p : Put) → length (tableAfter t k p) ≡ length t
@@ -64,22 +67,7 @@ module _ (s : List ℕ) (h : Kept) (K : Sound (h .known)) (Z : Sized h) (x : Nam
       let room : m < length (h .arrays .maps) = omega (arith, Z .maps) in
       let maps = front-more (h .arrays .maps) f m room in
       ap (λ (q : Known). stateIn s (after s h (record { refusal = 0; known = q; put = Map x; map = f }))) e
-      ∙ (λ i. record {
-        stage = k .stage;
-        shares = k .shares;
-        mapNames = names i;
-        maps = maps i;
-        inputs = k .inputs;
-        variables = k .variables;
-        origin = record { names = origin i; statements = take (k .origin) (h .arrays .statements) };
-        masked =
-            record {
-              names = masked i;
-              statements = take (k .masked) (drop (k .origin) (h .arrays .statements));
-            };
-        result = k .result;
-        outputs = take (k .named) (k .outputs);
-      })
+      ∙ state-same k (k .inputs) (k .variables) names maps origin refl masked refl
 
   -- one input more, with its shares
   pub input-means : InputFits (h .known)
@@ -106,19 +94,4 @@ module _ (s : List ℕ) (h : Kept) (K : Sound (h .known)) (Z : Sized h) (x : Nam
       listed-shares s one x maskedFrom (k .parts) (k .shares) (omega (arith, all)) size
       ∙ ap (λ (ns : List Name). ns ++ shareNames (nameIn s x) 0 (k .shares))
       (listed-apart t (originFrom + o) x s maskedFrom (k .parts) (λ i a b q. omega (arith, few, a, q))) in
-      λ i. record {
-        stage = k .stage;
-        shares = k .shares;
-        mapNames = maps i;
-        maps = take (k .mapped) (h .arrays .maps);
-        inputs = k .inputs + 1;
-        variables = k .variables + k .shares;
-        origin = record { names = origin i; statements = take (k .origin) (h .arrays .statements) };
-        masked =
-            record {
-              names = masked i;
-              statements = take (k .masked) (drop (k .origin) (h .arrays .statements));
-            };
-        result = k .result;
-        outputs = take (k .named) (k .outputs);
-      }
+      state-same k (k .inputs + 1) (k .variables + k .shares) maps refl origin refl masked refl

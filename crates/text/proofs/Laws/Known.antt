@@ -5,12 +5,14 @@ use mathlib.Core.Path.{_≡_, refl, sym, subst}
 use mathlib.Core.Bool.{Bool, true, false, cond}
 use mathlib.Core.List.{List}
 use lib.Dec.{eqb}
-use borrow.Author.Tests.{eqb-true, eqb-false}
+use borrow.Author.Tests.{eqb-true}
 use Rattle.tokens.specs.Limits.{mostShares}
 use Rattle.text.specs.declared.known.Known.{Known}
-use Rattle.text.specs.Order.{inMasked}
-use Rattle.text.specs.Limits.{mostMaps, mostStatements, mostEntries, originFrom, maskedFrom}
-use Rattle.text.specs.Known.{Sound, blank, inputAdded, originAdded, maskedAdded, InputFits, StatementFits}
+use Rattle.rules.specs.Order.{inMasked}
+use Rattle.rules.specs.Limits.{mostMaps, mostVariables, mostStatements, mostEntries, originFrom, maskedFrom}
+use Rattle.text.specs.Lets.{originLet, maskedMore}
+use Rattle.text.specs.Known.{Sound}
+use Rattle.text.specs.Added.{blank, inputAdded, originAdded, maskedAdded, InputFits, StatementFits}
 
 -- before the first line
 none-sound : Sound blank
@@ -86,38 +88,41 @@ module _ (k : Known) (K : Sound k) where
         apart = K .apart;
       }
 
-  module _ (drawn : ℕ) (f : StatementFits k drawn) (low : k .stage ≤ inMasked) where
-    -- one statement more of the origin block
-    origin-sound : (k .stage ≡ inMasked → ⊥) → Sound (originAdded k)
-    origin-sound g =
-        record {
-          shares = K .shares;
-          mapped = K .mapped;
-          inputs = K .inputs;
-          variables = K .variables;
-          statements = omega (arith, f .0);
-          named = K .named;
-          wholes = omega (arith, K .wholes);
-          parts = K .parts;
-          apart = K .apart;
-        }
+  -- so many statements more of the origin block
+  pub origin-sound : (n : ℕ) → k .origin + k .masked + n ≤ mostStatements → Sound (originLet k n)
+  origin-sound n h =
+      record {
+        shares = K .shares;
+        mapped = K .mapped;
+        inputs = K .inputs;
+        variables = K .variables;
+        statements = omega (arith, h);
+        named = K .named;
+        wholes = omega (arith, K .wholes);
+        parts = K .parts;
+        apart = K .apart;
+      }
 
-    -- one statement more of the masked block
-    masked-sound : k .stage ≡ inMasked → Sound (maskedAdded k drawn)
-    masked-sound g =
-        record {
-          shares = K .shares;
-          mapped = K .mapped;
-          inputs = K .inputs;
-          variables = f .1;
-          statements = omega (arith, f .0);
-          named = K .named;
-          wholes = K .wholes;
-          parts = omega (arith, K .parts);
-          apart = λ l. absurd (omega (arith, g, l));
-        }
+  -- so many statements more of the masked block, v variables in all
+  pub masked-sound : (v n : ℕ) → k .origin + k .masked + n ≤ mostStatements → k .variables ≤ v → v ≤ mostVariables
+      → k .stage ≡ inMasked → Sound (maskedMore k v n)
+  masked-sound v n h more few e =
+      record {
+        shares = K .shares;
+        mapped = K .mapped;
+        inputs = K .inputs;
+        variables = few;
+        statements = omega (arith, h);
+        named = K .named;
+        wholes = K .wholes;
+        parts = omega (arith, K .parts, more);
+        apart = λ l. absurd (omega (arith, e, l));
+      }
 
-    -- one statement more in its block
-    pub stated-sound : (b : Bool) → eqb (k .stage) inMasked ≡ b → Sound (cond b (maskedAdded k drawn) (originAdded k))
-    stated-sound true e = masked-sound (eqb-true (k .stage) inMasked e)
-    stated-sound false e = origin-sound (eqb-false (k .stage) inMasked e)
+  -- one statement more in its block
+  pub stated-sound : (drawn : ℕ) → StatementFits k drawn → (b : Bool) → eqb (k .stage) inMasked ≡ b
+      → Sound (cond b (maskedAdded k drawn) (originAdded k))
+  stated-sound drawn f true e =
+      masked-sound (k .variables + drawn) 1 (omega (arith, f .0)) (omega arith) (f .1)
+      (eqb-true (k .stage) inMasked e)
+  stated-sound drawn f false e = origin-sound 1 (omega (arith, f .0))

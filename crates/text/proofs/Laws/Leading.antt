@@ -10,11 +10,12 @@ use Rattle.tokens.specs.Ascii.{all, allowed, tab}
 use Rattle.tokens.specs.Split.{pieces}
 use Rattle.grammar.specs.Record.{Record, field, recordFor, nests}
 use Rattle.tokens.specs.Word.{wordOf}
-use Rattle.text.specs.Order.{mayStand, stageAfter}
-use Rattle.text.specs.State.{State}
-use Rattle.text.specs.Grown.{atStage}
-use Rattle.text.specs.Scope.{repeats, readsUnknown, exceeds, miscounts, added}
-use Rattle.text.specs.Read.{Outcome, stop, next, firstOf, unless, takeRecord, takePieces, takeLine}
+use Rattle.rules.specs.Order.{mayStand, stageAfter}
+use Rattle.rules.specs.State.{State}
+use Rattle.rules.specs.Grown.{atStage}
+use Rattle.rules.specs.Faults.{repeats, readsUnknown, exceeds, miscounts}
+use Rattle.rules.specs.Added.{added}
+use Rattle.rules.specs.Read.{Outcome, stop, next, firstOf, unless, takeRecord, takePieces, takeLine}
 use Rattle.text.specs.Taken.{firstFault, faultOf, takes}
 use Rattle.text.proofs.Laws.Taking.{no-faults}
 

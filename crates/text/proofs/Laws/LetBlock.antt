@@ -10,14 +10,16 @@ use lib.ListN.{length, take, drop, replicate, length-drop}
 use borrow.Author.Tests.{eqb-true, eqb-false}
 use Rattle.grammar.specs.declared.line.NameRef.{NameRef}
 use Rattle.grammar.specs.Line.{nameIn}
-use Rattle.text.specs.declared.types.Statement.{Statement}
+use Rattle.rules.specs.declared.types.Statement.{Statement}
 use Rattle.text.specs.declared.known.Known.{Known}
-use Rattle.text.specs.Order.{inMasked}
-use Rattle.text.specs.Grown.{unnamed, withOriginAll, withMaskedAll}
-use Rattle.text.specs.Limits.{originFrom, maskedFrom, mostEntries, mostNames}
-use Rattle.text.specs.Names.{listed, namesIn}
+use Rattle.rules.specs.Order.{inMasked}
+use Rattle.rules.specs.Stated.{unnamed, withOriginAll, withMaskedAll}
+use Rattle.rules.specs.Limits.{originFrom, maskedFrom, mostEntries, mostNames}
+use Rattle.lookup.specs.Names.{listed, namesIn}
 use Rattle.text.specs.Lets.{setAll, putLet, originLet, maskedLet, LetFits}
 use Rattle.text.specs.Known.{Kept, kept, arrays, stateIn, Sound, Sized, maskedNames, originNames}
+use Rattle.text.proofs.Laws.Known.{origin-sound, masked-sound}
+use Rattle.text.proofs.Laws.States.{take-none, state-same}
 use Rattle.text.proofs.Laws.Lets.{all-front, all-drop, all-low, let-apart, listed-let}
 
 module _ (k : Known) (K : Sound k) (n : ℕ) (f : LetFits k n) where
@@ -34,29 +36,8 @@ module _ (k : Known) (K : Sound k) (n : ℕ) (f : LetFits k n) where
   -- the counts behind a `let`
   pub let-sound : (b : Bool) → eqb (k .stage) inMasked ≡ b → Sound (cond b (maskedLet k n) (originLet k n))
   let-sound true e =
-      record {
-        shares = K .shares;
-        mapped = K .mapped;
-        inputs = K .inputs;
-        variables = K .variables;
-        statements = omega (arith, f .1);
-        named = K .named;
-        wholes = K .wholes;
-        parts = omega (arith, K .parts);
-        apart = λ l. absurd (omega (arith, eqb-true (k .stage) inMasked e, l));
-      }
-  let-sound false e =
-      record {
-        shares = K .shares;
-        mapped = K .mapped;
-        inputs = K .inputs;
-        variables = K .variables;
-        statements = omega (arith, f .1);
-        named = K .named;
-        wholes = omega (arith, K .wholes);
-        parts = K .parts;
-        apart = K .apart;
-      }
+      masked-sound k K (k .variables) n (f .1) (omega arith) (K .variables) (eqb-true (k .stage) inMasked e)
+  let-sound false e = origin-sound k K n (f .1)
 
   -- a `let` leaves the stage
   pub let-stage : (b : Bool) → cond b (maskedLet k n) (originLet k n) .stage ≡ k .stage
@@ -90,22 +71,9 @@ module _ (s : List ℕ) (h : Kept) (K : Sound (h .known)) (Z : Sized h) (x : Nam
       let masked = let-apart t (originFrom + o) x c (f .0) s maskedFrom (k .parts)
       (λ i a b p q. omega (arith, few, a, q)) in
       let mine = (λ i. take (k .origin + sym l i) (setAll ss (at i) sts)) ∙ all-front ss (k .origin) sts room in
-      let others : take (k .masked) (drop (k .origin + c) (setAll ss (k .origin + k .masked) sts))
-      ≡ take (k .masked) (drop (k .origin) ss) =
-      ap (λ (n : ℕ). take n (drop (k .origin + c) (setAll ss (k .origin + k .masked) sts))) z
-      ∙ sym (ap (λ (n : ℕ). take n (drop (k .origin) ss)) z) in
-      λ i. record {
-        stage = k .stage;
-        shares = k .shares;
-        mapNames = maps i;
-        maps = take (k .mapped) (h .arrays .maps);
-        inputs = k .inputs;
-        variables = k .variables;
-        origin = record { names = origin i; statements = mine i };
-        masked = record { names = masked i; statements = others i };
-        result = k .result;
-        outputs = take (k .named) (k .outputs);
-      }
+      let others =
+      take-none (k .masked) (drop (k .origin + c) (setAll ss (k .origin + k .masked) sts)) (drop (k .origin) ss) z in
+      state-same k (k .inputs) (k .variables) maps refl origin mine masked others
 
   masked-means : stateIn s (letHeld true) ≡ withMaskedAll (nameIn s x) sts (stateIn s h)
   unfolding letHeld stateIn withMaskedAll namesIn
@@ -127,18 +95,7 @@ module _ (s : List ℕ) (h : Kept) (K : Sound (h .known)) (Z : Sized h) (x : Nam
       let others = all-low (k .origin) ss (k .origin + k .masked) sts (omega arith) in
       let mine = (λ i. take (k .masked + sym l i) (all-drop (k .origin) ss (k .masked) sts i))
       ∙ all-front (drop (k .origin) ss) (k .masked) sts room in
-      λ i. record {
-        stage = k .stage;
-        shares = k .shares;
-        mapNames = maps i;
-        maps = take (k .mapped) (h .arrays .maps);
-        inputs = k .inputs;
-        variables = k .variables;
-        origin = record { names = origin i; statements = others i };
-        masked = record { names = masked i; statements = mine i };
-        result = k .result;
-        outputs = take (k .named) (k .outputs);
-      }
+      state-same k (k .inputs) (k .variables) maps refl origin others masked mine
 
   -- so many statements more in the block
   pub let-means : (b : Bool) → eqb (h .known .stage) inMasked ≡ b → h .known .stage ≤ inMasked

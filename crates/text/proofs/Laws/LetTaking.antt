@@ -19,27 +19,31 @@ use Rattle.grammar.specs.Line.{nameIn, piecesIn, fieldIn}
 use Rattle.grammar.specs.Measured.{MeasureIs}
 use Rattle.grammar.specs.Record.{Record, letting, nests}
 use Rattle.grammar.specs.Recorded.{letIn, formulaOf}
-use Rattle.text.specs.declared.types.Statement.{Statement}
+use Rattle.rules.specs.declared.types.Statement.{Statement}
 use Rattle.text.specs.declared.known.Known.{Known}
 use Rattle.text.specs.declared.step.Letting.{Letting}
 use Rattle.text.specs.declared.step.Put.the-variants.{Nothing, Let}
 use Rattle.text.specs.declared.step.Step.{Step}
-use Rattle.text.specs.Limits.{mostStatements}
-use Rattle.text.specs.Order.{inMasked}
-use Rattle.text.specs.Grown.{withOriginAll, withMaskedAll}
-use Rattle.text.specs.Scope.{given, repeats, readsUnknown, exceeds, miscounts, added, unknownFormula}
-use Rattle.text.specs.Scope.{letOps, stated}
-use Rattle.text.specs.Names.{namesIn}
-use Rattle.text.specs.Lets.{fieldOf, counted, statementsOf, letAdded, LetFits, LetRead, LetIs, LetWritten}
+use Rattle.rules.specs.Limits.{mostStatements}
+use Rattle.rules.specs.Order.{inMasked}
+use Rattle.rules.specs.Stated.{withOriginAll, withMaskedAll}
+use Rattle.rules.specs.Scope.{given, unknownFormula}
+use Rattle.rules.specs.Faults.{repeats, readsUnknown, exceeds, miscounts}
+use Rattle.rules.specs.Added.{added}
+use Rattle.rules.specs.Scope.{letOps}
+use Rattle.rules.specs.Added.{atLine}
+use Rattle.lookup.specs.Names.{namesIn}
+use Rattle.text.specs.Lets.{fieldOf, counted, statementsOf, letAdded, LetFits, LetIs, LetWritten}
 use Rattle.text.specs.Lets.{Shallow}
-use Rattle.text.specs.Known.{Arrays, kept, stateIn, Sound, Sized, mapNames, blockNames, letStatements, after}
+use Rattle.text.specs.Known.{Arrays, kept, stateIn, Sound, Sized, mapNames, blockNames}
+use Rattle.text.specs.Stored.{letStatements, after}
 use Rattle.text.specs.Taken.{firstFault, stepOf, Took}
-use Rattle.text.proofs.Laws.Letting.{let-length, let-some}
+use Rattle.rules.proofs.Laws.Letting.{let-length, let-some}
 use Rattle.text.proofs.Laws.LetBlock.{let-sound, let-stage, letHeld, let-means}
 use Rattle.text.proofs.Laws.Stating.{block-names}
 use Rattle.text.proofs.Laws.Taking.{Tested, no-faults, took-fault, took-deep, took-grown}
 use Rattle.text.proofs.Laws.Taking.{statements-length}
-use Rattle.text.proofs.Laws.LetWriting.{counted-is}
+use Rattle.text.proofs.Laws.LetWriting.{counted-is, let-stored}
 
 module _ (s t : List ℕ) (k : Known) (K : Sound k) (stands : Bool) (x : NameRef) (f : Letting) (S : Shallow s f)
     (u : Bool) (entry exit : List ℕ) {g m : Bool} {e : ℕ}
@@ -76,7 +80,7 @@ module _ (s t : List ℕ) (k : Known) (K : Sound k) (stands : Bool) (x : NameRef
 
   -- the `let` has a fault
   pub let-fault : (e ≡ 0 → ⊥) → {p : Step} → p ≡ stepOf e k Nothing
-      → Took s t k (f .line) stands (letIn (nameIn s x) (readFormula (fieldOf s f))) p
+      → Took s t exit k (f .line) stands (letIn (nameIn s x) (readFormula (fieldOf s f))) p
   let-fault z = took-fault s t k K (f .line) stands rec here w z tests
 
   -- so many statements more are within the limits
@@ -86,7 +90,7 @@ module _ (s t : List ℕ) (k : Known) (K : Sound k) (stands : Bool) (x : NameRef
       let few = ltb-false mostStatements (k .origin + k .masked + f .count) (sym mq ∙ free .3) in
       (omega (arith, S .count, let-some (S .formula)), few)
 
-  read-as : letStatements s t k f ≡ stated (f .line) (letOps ms maps (length ms) (S .formula))
+  read-as : letStatements s t k f ≡ atLine (f .line) (letOps ms maps (length ms) (S .formula))
   read-as = ap (statementsOf (f .line) ms maps) (S .read)
 
   grown : LetFits k (f .count) → k .stage ≤ inMasked → (a : Arrays) → Sized (kept t k a)
@@ -98,30 +102,23 @@ module _ (s t : List ℕ) (k : Known) (K : Sound k) (stands : Bool) (x : NameRef
       let long = ap (λ (l : List Statement). length l) read-as
       ∙ let-length ms maps (length ms) (f .line) (S .formula) ∙ sym (S .count) in
       let q = read-as
-      ∙ ap (λ (ns : List Name). stated (f .line) (letOps ns maps (length ns) (S .formula))) (block-names s t k a) in
+      ∙ ap (λ (ns : List Name). atLine (f .line) (letOps ns maps (length ns) (S .formula))) (block-names s t k a) in
       let-means s (kept t k a) K z x (f .count) fit (letStatements s t k f) long (eqb (k .stage) inMasked) refl low
       ∙ (λ i. cond (eqb (k .stage) inMasked) (withMaskedAll (nameIn s x) (q i) st)
       (withOriginAll (nameIn s x) (q i) st))
 
   -- the `let` is taken
   pub let-grown : e ≡ 0 → k .stage ≤ inMasked → {p : Step} → p ≡ stepOf 0 (letAdded k (f .count)) (Let x f)
-      → Took s t k (f .line) stands (letIn (nameIn s x) (readFormula (fieldOf s f))) p
+      → Took s t exit k (f .line) stands (letIn (nameIn s x) (readFormula (fieldOf s f))) p
   unfolding stepOf
   let-grown z low q =
       let fit = let-fits z in
       let free = no-faults stands g u m false w z in
-      let read : LetRead s ms maps f =
-      record {
-        formula = S .formula;
-        read = S .read;
-        inside = S .inside;
-        count = S .count;
-        known = sym (looked .unknown) ∙ free .2;
-      } in
-      subst (Took s t k (f .line) stands (letIn (nameIn s x) (readFormula (fieldOf s f)))) (sym q)
+      let held = let-stored s t k K x f fit S (sym (looked .unknown) ∙ free .2) entry exit u looked in
+      subst (Took s t exit k (f .line) stands (letIn (nameIn s x) (readFormula (fieldOf s f)))) (sym q)
       (took-grown s t k K (f .line) stands rec here (stepOf 0 (letAdded k (f .count)) (Let x f)) (sym z ∙ w)
       (let-stage k K (f .count) fit (eqb (k .stage) inMasked))
-      (let-sound k K (f .count) fit (eqb (k .stage) inMasked) refl) fit read tests (grown fit low))
+      (let-sound k K (f .count) fit (eqb (k .stage) inMasked) refl) fit held tests (grown fit low))
 
 -- ---- a line's formula
 
@@ -172,8 +169,8 @@ module _ (s : List ℕ) (l : Line) (r : FormulaRead) (M : Measured r (formulaOf 
 
 -- it nests too deep
 pub line-deep : (s t : List ℕ) (k : Known) → Sound k → (n : ℕ) (stands : Bool) (x : NameRef) (r : FormulaRead)
-    (o : Option Formula) → Measured r o → mostDepth < r .depth → {p : Step} → p ≡ stepOf 13 k Nothing
-    → Took s t k n stands (letIn (nameIn s x) o) p
+    (o : Option Formula) {codes : List ℕ} → Measured r o → mostDepth < r .depth → {p : Step} → p ≡ stepOf 13 k Nothing
+    → Took s t codes k n stands (letIn (nameIn s x) o) p
 unfolding nests
 line-deep s t k K n stands x r o M h =
     took-deep s t k K n stands (letting (nameIn s x) (M .formula)) (ap (letIn (nameIn s x)) (sym (M .here)))

@@ -14,25 +14,31 @@ use borrow.Author.Tests.{ne-eqb}
 use Rattle.tokens.specs.Token.{_>>=_, provided, Name}
 use Rattle.grammar.specs.Formula.{Formula, Parsed, operand, xor, mul, app, operations, parsed, whole}
 use Rattle.grammar.specs.Formula.{readFormula}
-use Rattle.text.specs.declared.types.Op.the-variants.{Set}
-use Rattle.text.specs.declared.compile.Compiled.{Compiled}
-use Rattle.text.specs.Limits.{mostStatements}
-use Rattle.text.specs.Scope.{valueOf, letCount, letOps, compiled}
-use Rattle.text.specs.Compiled.{putOp, written, CompileIs, Compiles, Room}
+use Rattle.grammar.specs.declared.line.NameRef.{NameRef}
+use Rattle.rules.specs.declared.types.Op.the-variants.{Set}
+use Rattle.text.specs.declared.step.Put.the-variants.{Let}
+use Rattle.lookup.specs.declared.compile.Compiled.{Compiled}
+use Rattle.rules.specs.Limits.{mostStatements}
+use Rattle.rules.specs.Scope.{unknownFormula, valueOf, letCount, letOps, compiled}
+use Rattle.lookup.specs.Coded.{putOp, written}
+use Rattle.lookup.specs.Compiled.{CompileIs, Compiles, Room}
 use Rattle.text.specs.declared.known.Known.{Known}
-use Rattle.text.specs.declared.names.Names.{Names}
+use Rattle.lookup.specs.declared.names.Names.{Names}
 use Rattle.text.specs.declared.step.Letting.{Letting}
-use Rattle.text.specs.Limits.{mostNames}
-use Rattle.text.specs.Order.{inMasked}
-use Rattle.text.specs.Names.{namesIn, Within}
-use Rattle.text.specs.Compiled.{Looks}
-use Rattle.text.specs.Known.{Sound, blockNames, mapNames, maskedNames, originNames, letStatements}
-use Rattle.text.specs.Lets.{opsFrom, fieldOf, statementsOf, counted, LetFits, LetRead, LetRoom, LetIs}
+use Rattle.rules.specs.Limits.{mostNames}
+use Rattle.rules.specs.Order.{inMasked}
+use Rattle.lookup.specs.Names.{namesIn, Within}
+use Rattle.lookup.specs.Compiled.{Looks}
+use Rattle.text.specs.Known.{Sound, blockNames, mapNames, maskedNames, originNames}
+use Rattle.text.specs.Stored.{LetsHeld}
+use Rattle.text.specs.Lets.{fieldOf, statementsOf, counted, LetFits, LetRoom, LetIs}
 use Rattle.text.specs.Lets.{LetWritten, Shallow}
+use Rattle.text.specs.Given.{givenFrom}
 use Rattle.grammar.proofs.Laws.Holding.{Holds, FormedFormula, formula-formed}
-use Rattle.text.proofs.Laws.Named.{listed-length}
+use Rattle.lookup.proofs.Laws.Named.{listed-length}
+use Rattle.lookup.proofs.Laws.Decoding.{written-length}
 use Rattle.text.proofs.Laws.LetBlock.{let-places}
-use Rattle.text.proofs.Laws.Letting.{shallow-few}
+use Rattle.rules.proofs.Laws.Letting.{shallow-few}
 use Rattle.text.proofs.Laws.LetDecoding.{let-back}
 
 -- ---- how many statements there are
@@ -44,14 +50,6 @@ counted-is (operand a) = refl
 counted-is (xor a b) = simp (ne-eqb (operations a + operations b + 1) 0 (λ e. omega arith))
 counted-is (mul a b) = simp (ne-eqb (operations a + operations b + 1) 0 (λ e. omega arith))
 counted-is (app f a) = simp (ne-eqb (operations a + 1) 0 (λ e. omega arith))
-
--- no more operations than statements
-pub operations-le : (e : Formula) → operations e ≤ letCount e
-unfolding operations letCount
-operations-le (operand a) = omega arith
-operations-le (xor a b) = omega arith
-operations-le (mul a b) = omega arith
-operations-le (app f a) = omega arith
 
 -- ---- a formula with nothing behind it
 
@@ -155,12 +153,6 @@ let-few (app f a) = omega arith
 pub shallow-count : (s : List ℕ) (f : Letting) → Shallow s f → f .count ≤ mostStatements
 shallow-count s f S = omega (arith, S .count, let-few (S .formula), shallow-few (S .formula) (S .shallow))
 
--- there is room for a formula that was read
-pub read-room : (s : List ℕ) (ms maps : List Name) (f : Letting) → LetRead s ms maps f → f .count ≤ mostStatements
-    → LetRoom (readFormula (fieldOf s f))
-read-room s ms maps f R h =
-    subst LetRoom (sym (R .read)) (omega (arith, operations-le (R .formula), R .count, h))
-
 -- there is room for a formula that does not nest too deep
 pub shallow-fits : (s : List ℕ) (f : Letting) → Shallow s f → LetRoom (readFormula (fieldOf s f))
 shallow-fits s f S = subst LetRoom (sym (S .read)) (omega (arith, shallow-few (S .formula) (S .shallow)))
@@ -214,22 +206,33 @@ module _ (s t : List ℕ) (k : Known) (f : Letting) (n : Names) (e : n ≡ block
           told (written-several (namesIn s t n) (namesIn s t (mapNames k)) (n .count) (names-count s t n) p entry mid
           exit r C z x)
 
+let-size : (ms maps : List Name) (entry exit : List ℕ) (u : Bool) (e : Formula) → LetIs ms maps entry exit u e
+    → length exit ≡ length entry
+let-size ms maps entry exit u e L =
+    ap (λ (c : List ℕ). length c) (L .codes) ∙ written-length entry 0 (letOps ms maps (length ms) e)
+
+-- the array keeps its size
+pub written-size : (ms maps : List Name) (entry exit : List ℕ) (u : Bool) (o : Option Formula) → LetRoom o
+    → LetWritten ms maps entry exit u o → length exit ≡ length entry
+written-size ms maps entry exit u none h W = absurd h
+written-size ms maps entry exit u (some e) h W = let-size ms maps entry exit u e W
+
 -- the statements of a `let`, read back from where they were written
-pub let-stored : (s t : List ℕ) (k : Known) → Sound k → (f : Letting) → LetFits k (f .count)
-    → LetRead s (namesIn s t (blockNames k)) (namesIn s t (mapNames k)) f → (entry exit : List ℕ) (u : Bool)
-    → length entry ≡ 768
-    → LetWritten (namesIn s t (blockNames k)) (namesIn s t (mapNames k)) entry exit u (readFormula (fieldOf s f))
-    → opsFrom exit (f .line) 0 (f .count) ≡ letStatements s t k f
-let-stored s t k K f F R entry exit u size W =
+pub let-stored : (s t : List ℕ) (k : Known) → Sound k → (x : NameRef) (f : Letting) → LetFits k (f .count)
+    → (S : Shallow s f)
+    → unknownFormula (namesIn s t (blockNames k)) (namesIn s t (mapNames k)) (S .formula) ≡ false
+    → (entry exit : List ℕ) (u : Bool)
+    → LetIs (namesIn s t (blockNames k)) (namesIn s t (mapNames k)) entry exit u (S .formula)
+    → LetsHeld s t exit k (Let x f)
+let-stored s t k K x f F S known entry exit u L size =
     let ms = namesIn s t (blockNames k) in
     let maps = namesIn s t (mapNames k) in
-    let L : LetIs ms maps entry exit u (R .formula) =
-    subst (λ (o : Option Formula). LetWritten ms maps entry exit u o) (R .read) W in
-    let formed : FormedFormula (R .formula) =
-    subst (λ (o : Option Formula). Holds FormedFormula o) (R .read) (formula-formed (fieldOf s f)) in
+    let formed : FormedFormula (S .formula) =
+    subst (λ (o : Option Formula). Holds FormedFormula o) (S .read) (formula-formed (fieldOf s f)) in
     let few : length ms + f .count ≤ mostNames =
     omega (arith, names-count s t (blockNames k), let-places k K (f .count) F (eqb (k .stage) inMasked)) in
-    let room : 3 * f .count ≤ length entry = omega (arith, size, F .1) in
-    ap (λ (c : List ℕ). opsFrom c (f .line) 0 (f .count)) (L .codes)
-    ∙ let-back ms maps (f .line) (R .formula) entry (f .count) formed (R .known) few (R .count) room
-    ∙ ap (statementsOf (f .line) ms maps) (sym (R .read))
+    let room : 3 * f .count ≤ length entry =
+    omega (arith, size, let-size ms maps entry exit u (S .formula) L, F .1) in
+    ap (λ (c : List ℕ). givenFrom c (Let x f) 0 (f .count)) (L .codes)
+    ∙ let-back ms maps x f (S .formula) entry (f .count) formed known few (S .count) room
+    ∙ ap (statementsOf (f .line) ms maps) (sym (S .read))

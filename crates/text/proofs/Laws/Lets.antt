@@ -8,12 +8,12 @@ use lib.Seq.{take-set-le, drop-set-add}
 use Rattle.grammar.specs.declared.line.NameRef.{NameRef}
 use Rattle.tokens.specs.Token.{Name}
 use Rattle.grammar.specs.Line.{nameIn}
-use Rattle.text.specs.Grown.{unnamed}
-use Rattle.text.specs.Limits.{mostEntries, mostNumbers}
-use Rattle.text.specs.Names.{listed, put}
+use Rattle.rules.specs.Stated.{unnamed}
+use Rattle.rules.specs.Limits.{mostEntries, mostNumbers}
+use Rattle.lookup.specs.Names.{listed, put}
 use Rattle.text.specs.Lets.{setAll, nameless, putNameless, putLet}
-use Rattle.text.proofs.Laws.Arrays.{front-more}
-use Rattle.text.proofs.Laws.Named.{put-length, listed-apart, listed-next}
+use Rattle.lookup.proofs.Laws.Arrays.{front-more}
+use Rattle.lookup.proofs.Laws.Named.{put-length, listed-apart, listed-next}
 
 -- ---- arrays
 

@@ -9,10 +9,10 @@ use lib.Dec.{eqb}
 use lib.ListN.{length, take, drop, length-drop, drop-of-length-le}
 use Rattle.tokens.specs.Ascii.{lineFeed, all, allowed}
 use Rattle.tokens.specs.Split.{before, pieces}
-use Rattle.text.specs.State.{State}
-use Rattle.text.specs.Order.{atEnd}
-use Rattle.text.specs.Read.{Reading, refused, accepted, Outcome, stop, next, takeLine, takeLast, follow}
-use Rattle.text.specs.Read.{takeLines, routine}
+use Rattle.rules.specs.State.{State}
+use Rattle.rules.specs.Order.{atEnd}
+use Rattle.rules.specs.Read.{Reading, refused, accepted, Outcome, stop, next, takeLine, takeLast, follow}
+use Rattle.rules.specs.Read.{takeLines, routine}
 use Rattle.tokens.proofs.Laws.Pieces.{pieces-whole, some-piece}
 use Rattle.reader.proofs.Laws.Lines.{piece-cut}
 

@@ -3,26 +3,19 @@
 -- Assumes nothing.
 use Prim.Native.Nat.{ℕ, _≤_, _<_}
 use native.Mathlib.Omega.{arith}
-use mathlib.Core.Path.{_≡_, refl}
-use mathlib.Core.Bool.{Bool, true, false, _||_}
+use mathlib.Core.Path.{_≡_, sym}
+use mathlib.Core.Bool.{true, _||_}
 use lib.Dec.{eqb}
 use borrow.Author.Tests.{eqb-true}
 use Rattle.tokens.specs.declared.word.Word.{Word}
 use Rattle.tokens.specs.declared.word.Word.the-variants.{Shares, Map, Input, Origin, Set, Xor, Mul, App, Let, Rand}
 use Rattle.tokens.specs.declared.word.Word.the-variants.{Result, Masked, Output, Unknown}
-use Rattle.text.specs.Order.{mayStand, stageAfter, inMasked}
-
-either-le : (p q : Bool) {a b : ℕ} → (p ≡ true → a ≤ b) → (q ≡ true → a ≤ b) → p || q ≡ true → a ≤ b
-either-le true q f g h = f refl
-either-le false q f g h = g h
+use Rattle.tokens.proofs.Laws.Flags.{true-false}
+use Rattle.rules.specs.Order.{mayStand, stageAfter, inMasked}
+use Rattle.rules.proofs.Laws.Reads.{one-of, at-most}
 
 two-le : (stage a b n : ℕ) → a ≤ n → b ≤ n → eqb stage a || eqb stage b ≡ true → stage ≤ n
-two-le stage a b n h k =
-    either-le (eqb stage a) (eqb stage b) {a = stage} {b = n}
-    (λ e. omega (arith, eqb-true stage a e)) (λ e. omega (arith, eqb-true stage b e))
-
-false-true : {A : Type 0} → false ≡ true → A
-false-true h = let z : _≡_ {A = ℕ} 0 1 = cc in absurd (omega arith)
+two-le stage a b n h k e = at-most stage a b n h k (one-of stage a b e)
 
 -- no record may stand behind output
 pub stands-le : (w : Word) (stage : ℕ) → mayStand w stage ≡ true → stage ≤ inMasked
@@ -39,7 +32,7 @@ stands-le Rand stage h = omega (arith, eqb-true stage 5 h)
 stands-le Result stage h = omega (arith, eqb-true stage 3 h)
 stands-le Masked stage h = omega (arith, eqb-true stage 4 h)
 stands-le Output stage h = omega (arith, eqb-true stage 5 h)
-stands-le Unknown stage h = false-true h
+stands-le Unknown stage h = true-false (sym h)
 
 -- a stage before the masked block follows only one before it
 pub after-lt : (w : Word) (stage : ℕ) → mayStand w stage ≡ true → stageAfter w stage < inMasked → stage < inMasked

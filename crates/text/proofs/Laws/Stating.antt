@@ -14,20 +14,25 @@ use Rattle.grammar.specs.Record.{assign}
 use Rattle.grammar.specs.Line.{nameIn}
 use Rattle.grammar.specs.Recorded.{formAt, assignIn}
 use Rattle.text.specs.declared.known.Known.{Known}
-use Rattle.text.specs.declared.scope.FormFound.{FormFound}
+use Rattle.lookup.specs.declared.scope.FormFound.{FormFound}
 use Rattle.text.specs.declared.step.Put.the-variants.{Nothing, Stated}
 use Rattle.text.specs.declared.step.Step.{Step}
-use Rattle.text.specs.Order.{inMasked}
-use Rattle.text.specs.Grown.{withOrigin, withMasked}
-use Rattle.text.specs.Scope.{given, block, repeats, readsUnknown, exceeds, miscounts, added, unknownForm, opIn}
-use Rattle.text.specs.Scope.{drawn}
-use Rattle.text.specs.Names.{namesIn}
-use Rattle.text.specs.Known.{Arrays, kept, stateIn, Sound, Sized, StatementFits, crowded, mapNames, blockNames}
-use Rattle.text.specs.Known.{maskedNames, originNames, maskedAdded, originAdded, stated, after}
-use Rattle.text.specs.Limits.{mostStatements, mostVariables}
-use Rattle.text.specs.Found.{formTold, toldIn}
+use Rattle.rules.specs.Order.{inMasked}
+use Rattle.rules.specs.Stated.{withOrigin, withMasked}
+use Rattle.rules.specs.Scope.{given, unknownForm, opIn}
+use Rattle.rules.specs.Faults.{block, repeats, readsUnknown, exceeds, miscounts}
+use Rattle.rules.specs.Added.{added}
+use Rattle.rules.specs.Scope.{drawn}
+use Rattle.lookup.specs.Names.{namesIn}
+use Rattle.text.specs.Known.{Arrays, kept, stateIn, Sound, Sized, mapNames, blockNames}
+use Rattle.text.specs.Added.{StatementFits, crowded}
+use Rattle.text.specs.Known.{maskedNames, originNames}
+use Rattle.text.specs.Added.{maskedAdded, originAdded, stated}
+use Rattle.text.specs.Stored.{after}
+use Rattle.rules.specs.Limits.{mostStatements, mostVariables}
+use Rattle.lookup.specs.Found.{formTold, toldIn}
 use Rattle.text.specs.Taken.{firstFault, stepOf, Took}
-use Rattle.text.proofs.Laws.Reads.{or-false}
+use Rattle.tokens.proofs.Laws.Flags.{or-false}
 use Rattle.text.proofs.Laws.Known.{stated-sound}
 use Rattle.text.proofs.Laws.Block.{stated-means}
 use Rattle.text.proofs.Laws.Taking.{Tested, took-bad, took-fault, took-grown, statements-length, Formed}
@@ -65,8 +70,8 @@ module _ (s t : List ℕ) (k : Known) (K : Sound k) (n : ℕ) (stands : Bool) (x
     (b : ms ≡ namesIn s t (blockNames k))
     (q : toldIn r ≡ formTold ms (namesIn s t (mapNames k)) (k .variables) (formAt s f)) where
   -- a field is not of its form
-  pub form-bad : r .ok ≡ false → {p : Step} → p ≡ stepOf 5 k Nothing
-      → Took s t k n stands (assignIn s (nameIn s x) f) p
+  pub form-bad : {codes : List ℕ} → r .ok ≡ false → {p : Step} → p ≡ stepOf 5 k Nothing
+      → Took s t codes k n stands (assignIn s (nameIn s x) f) p
   form-bad h = took-bad s t k K n stands (assign-bad s (nameIn s x) f
       (unformed ms (namesIn s t (mapNames k)) (k .variables) r (formAt s f) q h))
 
@@ -91,8 +96,8 @@ module _ (s t : List ℕ) (k : Known) (K : Sound k) (n : ℕ) (stands : Bool) (x
         }
 
     -- the statement has a fault
-    pub form-fault : (e ≡ 0 → ⊥) → {p : Step} → p ≡ stepOf e k Nothing
-        → Took s t k n stands (assignIn s (nameIn s x) f) p
+    pub form-fault : {codes : List ℕ} → (e ≡ 0 → ⊥) → {p : Step} → p ≡ stepOf e k Nothing
+        → Took s t codes k n stands (assignIn s (nameIn s x) f) p
     form-fault z = took-fault s t k K n stands (assign (nameIn s x) (F .form))
         (assign-read s (nameIn s x) f (F .here)) w z tests
 
@@ -113,13 +118,13 @@ module _ (s t : List ℕ) (k : Known) (K : Sound k) (n : ℕ) (stands : Bool) (x
         (withOrigin (nameIn s x) (record { op = op i; line = n }) (stateIn s (kept t k a))))
 
     -- the statement is taken
-    pub form-grown : e ≡ 0 → StatementFits k (r .drawn) → k .stage ≤ inMasked
+    pub form-grown : {codes : List ℕ} → e ≡ 0 → StatementFits k (r .drawn) → k .stage ≤ inMasked
         → {p : Step} → p ≡ stepOf 0 (stated k (r .drawn)) (Stated x (record { op = r .op; line = n }))
-        → Took s t k n stands (assignIn s (nameIn s x) f) p
+        → Took s t codes k n stands (assignIn s (nameIn s x) f) p
     unfolding step stepOf
     form-grown z fit low e =
-        subst (Took s t k n stands (assignIn s (nameIn s x) f)) (sym e)
+        subst (Took s t _ k n stands (assignIn s (nameIn s x) f)) (sym e)
         (took-grown s t k K n stands (assign (nameIn s x) (F .form)) (assign-read s (nameIn s x) f (F .here))
         step (sym z ∙ w) (stated-stage k (r .drawn) (eqb (k .stage) inMasked))
-        (stated-sound k K (r .drawn) fit low (eqb (k .stage) inMasked) refl) (fit .0) tt tests
+        (stated-sound k K (r .drawn) fit (eqb (k .stage) inMasked) refl) (fit .0) tt tests
         (λ a y. grown a y fit low))

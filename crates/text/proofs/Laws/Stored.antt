@@ -1,79 +1,116 @@
 -- What the loop stores is what a step says is held behind it, and the sizes stay. Assumes nothing.
-use Prim.Native.Nat.{ℕ, _+_, _<_}
-use mathlib.Core.Path.{_≡_, refl, _∙_, ap}
-use mathlib.Core.Bool.{Bool, cond}
+use Prim.Native.Nat.{ℕ, suc, _+_, _-_, _≤_, _<_}
+use native.Mathlib.Omega.{arith}
+use mathlib.Core.Path.{_≡_, refl, sym, _∙_, ap}
 use mathlib.Core.List.{List}
-use lib.Dec.{ltb}
-use lib.ListN.{length, getD, set, length-set}
-use lib.Seq.{set-getD}
-use borrow.Author.Tests.{lt-ltb}
-use Rattle.text.specs.declared.types.Statement.{Statement}
-use Rattle.text.specs.declared.types.AffineMap.{AffineMap}
+use lib.ListN.{length, set, length-set}
+use Rattle.rules.specs.declared.types.Statement.{Statement}
+use Rattle.rules.specs.declared.types.AffineMap.{AffineMap}
 use Rattle.text.specs.declared.known.Known.{Known}
 use Rattle.text.specs.declared.step.Put.{Put}
 use Rattle.text.specs.declared.step.Put.the-variants.{Nothing, Map, Input, Stated, Let}
 use Rattle.text.specs.declared.step.Step.{Step}
 use Rattle.text.specs.declared.routine.Routine.{Routine}
-use Rattle.text.specs.State.{start}
-use Rattle.text.specs.Names.{listed, namesIn}
+use Rattle.rules.specs.State.{start}
+use Rattle.lookup.specs.Names.{listed, namesIn}
 use Rattle.text.specs.Routine.{nothing}
-use Rattle.text.specs.Limits.{mostStatements, mostNumbers}
-use Rattle.text.specs.Known.{Arrays, arrays, Kept, kept, Sized, Fits, statementSlot, statementAfter}
-use Rattle.text.specs.Known.{mapsAfter, tableAfter, arraysAfter, letStatements, after, stateIn, blank}
+use Rattle.rules.specs.Limits.{mostStatements, mostNumbers}
+use Rattle.text.specs.Known.{Arrays, arrays, Kept, kept, Sound, Sized}
+use Rattle.text.specs.Added.{Fits}
+use Rattle.text.specs.Stored.{LetsHeld}
+use Rattle.text.specs.Stored.{mapsAfter, tableAfter, arraysAfter, letStatements, after}
+use Rattle.text.specs.Known.{stateIn}
+use Rattle.text.specs.Added.{blank}
 use Rattle.text.specs.Lets.{setAll}
+use Rattle.text.specs.Given.{givenCount, givenAt, givenFrom, mostCodes}
 use Rattle.text.proofs.Laws.Lets.{all-length}
 use Rattle.text.proofs.Laws.Kept.{table-length}
 
--- a place with room is the next
-slot : (n m : ℕ) → n < m → cond (ltb n m) n 0 ≡ n
-slot n m h = ap (λ (b : Bool). cond b n 0) (lt-ltb n m h)
+-- ---- the statements that a record gives, stored one at a time
 
--- the statements with those of a `let`, if it is one
-abbrev pub letAfter : List ℕ → List ℕ → Known → Put → List Statement → List Statement
-letAfter s t k Nothing ss = ss
-letAfter s t k (Map x) ss = ss
-letAfter s t k (Input x) ss = ss
-letAfter s t k (Stated x st) ss = ss
-letAfter s t k (Let x f) ss = setAll ss (k .origin + k .masked) (letStatements s t k f)
+given-next : (ss : List Statement) (codes : List ℕ) (p : Put) (at i m : ℕ) (st : Statement) → st ≡ givenAt codes p i
+    → setAll ss (at + i) (givenFrom codes p i (suc m))
+    ≡ setAll (set ss (at + i) st) (at + (i + 1)) (givenFrom codes p (i + 1) m)
+unfolding setAll givenFrom
+given-next ss codes p at i m st e =
+    let a : at + i + 1 ≡ at + (i + 1) = omega arith in
+    λ j. setAll (set ss (at + i) (sym e j)) (a j) (givenFrom codes p (i + 1) m)
 
-module _ (s t : List ℕ) (a : Arrays) (k : Known) (g : AffineMap) (i : ℕ) (d : Statement) where
-  -- the arrays behind the stores
-  stored : Put → Arrays
-  stored p =
-      arrays (mapsAfter (a .maps) k p g)
-      (letAfter s t k p (set (a .statements) i (statementAfter p (getD (a .statements) i d))))
+given-done : (ss : List Statement) (codes : List ℕ) (p : Put) (at i m : ℕ) → m ≡ 0
+    → setAll ss at (givenFrom codes p i m) ≡ ss
+unfolding setAll givenFrom
+given-done ss codes p at i m e = ap (λ (l : ℕ). setAll ss at (givenFrom codes p i l)) e
 
-  same-statements : set (a .statements) i (getD (a .statements) i d) ≡ a .statements
-  same-statements = set-getD (a .statements) i d
+-- the statements behind the first i of n stores: the rest stored behind them makes all of them
+abbrev pub Storing : List Statement → List ℕ → Put → ℕ → ℕ → List Statement → ℕ → Type 0
+Storing ss₀ codes p at n ss i =
+    (i ≤ n) × (length ss ≡ mostStatements)
+    × (setAll ss (at + i) (givenFrom codes p i (n - i)) ≡ setAll ss₀ at (givenFrom codes p 0 n))
 
-  -- they are those that the record leads to
-  stores : (p : Put) → Fits k p → i ≡ statementSlot k → stored p ≡ arraysAfter s t a k p g
-  unfolding stored
-  stores Nothing f u = λ n. arrays (a .maps) (same-statements n)
-  stores (Map x) f u = λ n. arrays (set (a .maps) (k .mapped) g) (same-statements n)
-  stores (Input x) f u = λ n. arrays (a .maps) (same-statements n)
-  stores (Stated x st) f u =
-      let at = u ∙ slot (k .origin + k .masked) mostStatements f in
-      λ n. arrays (a .maps) (set (a .statements) (at n) st)
-  stores (Let x l) f u = λ n. arrays (a .maps)
-      (setAll (same-statements n) (k .origin + k .masked) (letStatements s t k l))
+module _ (ss₀ : List Statement) (codes : List ℕ) (p : Put) (at n : ℕ) where
+  -- none is stored
+  pub storing-none : length ss₀ ≡ mostStatements → Storing ss₀ codes p at n ss₀ 0
+  storing-none size =
+      let from : at + 0 ≡ at = omega arith in
+      let all : n - 0 ≡ n = omega arith in
+      (omega arith, size, λ j. setAll ss₀ (from j) (givenFrom codes p 0 (all j)))
+
+  module _ (ss : List Statement) (i : ℕ) (I : Storing ss₀ codes p at n ss i) where
+    -- one more
+    pub storing-more : (st : Statement) → i < n → st ≡ givenAt codes p i
+        → Storing ss₀ codes p at n (set ss (at + i) st) (i + 1)
+    storing-more st h e =
+        let m = n - (i + 1) in
+        let rest : n - i ≡ suc m = omega (arith, h) in (
+          omega (arith, h),
+          length-set ss (at + i) st ∙ I .1,
+          sym (given-next ss codes p at i m st e)
+              ∙ ap (λ (l : ℕ). setAll ss (at + i) (givenFrom codes p i l)) (sym rest) ∙ I .2,
+        )
+
+    -- all of them
+    pub storing-done : n ≤ i → n ≡ givenCount p → ss ≡ setAll ss₀ at (givenFrom codes p 0 (givenCount p))
+    storing-done h e =
+        let left : n - i ≡ 0 = omega (arith, h) in
+        sym (given-done ss codes p (at + i) i (n - i) left) ∙ I .2
+        ∙ ap (λ (m : ℕ). setAll ss₀ at (givenFrom codes p 0 m)) e
+
+-- there is room for what a record gives
+pub given-room : (k : Known) → Sound k → (p : Put) → Fits k p → k .origin + k .masked + givenCount p ≤ mostStatements
+given-room k K Nothing f = omega (arith, K .statements)
+given-room k K (Map x) f = omega (arith, K .statements)
+given-room k K (Input x) f = omega (arith, K .statements)
+given-room k K (Stated x st) f = omega arith
+given-room k K (Let x l) f = f .1
+
+-- the arrays behind the stores are those that the record leads to
+stores : (s t codes : List ℕ) (a : Arrays) (k : Known) (g : AffineMap) (p : Put) → LetsHeld s t codes k p
+    → length codes ≡ mostCodes
+    → arrays (mapsAfter (a .maps) k p g)
+    (setAll (a .statements) (k .origin + k .masked) (givenFrom codes p 0 (givenCount p)))
+    ≡ arraysAfter s t a k p g
+unfolding setAll givenFrom
+stores s t codes a k g Nothing l z = refl
+stores s t codes a k g (Map x) l z = refl
+stores s t codes a k g (Input x) l z = refl
+stores s t codes a k g (Stated x st) l z = refl
+stores s t codes a k g (Let x f) l z =
+    ap (λ (ss : List Statement). arrays (a .maps) (setAll (a .statements) (k .origin + k .masked) ss)) (l z)
 
 module _ (s : List ℕ) (h : Kept) (r : Step) where
   -- the loop's stores lead to what the step says
-  pub kept-after : Fits (h .known) (r .put) → (i : ℕ) (d : Statement) {t : List ℕ} {st : Statement}
-      {fs : List AffineMap} {ss : List Statement} → i ≡ statementSlot (h .known)
-      → st ≡ statementAfter (r .put) (getD (h .arrays .statements) i d)
+  pub kept-after : (codes : List ℕ) {t : List ℕ} {fs : List AffineMap} {ss : List Statement}
+      → LetsHeld s (h .names) codes (h .known) (r .put) → length codes ≡ mostCodes
       → fs ≡ mapsAfter (h .arrays .maps) (h .known) (r .put) (r .map)
       → t ≡ tableAfter (h .names) (h .known) (r .put)
-      → ss ≡ letAfter s (h .names) (h .known) (r .put) (set (h .arrays .statements) i st)
+      → ss ≡ setAll (h .arrays .statements) (h .known .origin + h .known .masked)
+      (givenFrom codes (r .put) 0 (givenCount (r .put)))
       → kept t (r .known) (arrays fs ss) ≡ after s h r
-  unfolding after stored
-  kept-after F i d u p q w m =
-      (λ n. kept (w n) (r .known)
-      (arrays (q n)
-      ((m ∙ ap (λ (y : Statement). letAfter s (h .names) (h .known) (r .put) (set (h .arrays .statements) i y)) p) n)))
+  unfolding after
+  kept-after codes l z q w m =
+      (λ n. kept (w n) (r .known) (arrays (q n) (m n)))
       ∙ ap (kept (tableAfter (h .names) (h .known) (r .put)) (r .known))
-      (stores s (h .names) (h .arrays) (h .known) (r .map) i d (r .put) F u)
+      (stores s (h .names) codes (h .arrays) (h .known) (r .map) (r .put) l z)
 
   maps-size : (p : Put)
       → length (arraysAfter s (h .names) (h .arrays) (h .known) p (r .map) .maps) ≡ length (h .arrays .maps)

@@ -12,18 +12,22 @@ use Rattle.text.specs.declared.known.Known.{Known}
 use Rattle.text.specs.declared.step.Put.the-variants.{Nothing}
 use Rattle.text.specs.declared.step.Step.{Step}
 use Rattle.grammar.specs.declared.record.FormRead.{FormRead}
-use Rattle.text.specs.declared.scope.FormFound.{FormFound}
+use Rattle.lookup.specs.declared.scope.FormFound.{FormFound}
 use Rattle.tokens.specs.Token.{_>>=_, Name}
 use Rattle.grammar.specs.Record.{Record, assign, Form, nests}
-use Rattle.text.specs.State.{State}
-use Rattle.text.specs.Scope.{repeats, readsUnknown, exceeds, miscounts, added, statementCount, unknownForm, opIn}
-use Rattle.text.specs.Scope.{drawn}
-use Rattle.text.specs.Read.{unless}
+use Rattle.rules.specs.State.{State}
+use Rattle.rules.specs.Scope.{unknownForm, opIn}
+use Rattle.rules.specs.Faults.{repeats, readsUnknown, exceeds, miscounts, statementCount}
+use Rattle.rules.specs.Added.{added}
+use Rattle.rules.specs.Scope.{drawn}
+use Rattle.rules.specs.Read.{unless}
 use Rattle.grammar.specs.Recorded.{formAt, assignIn}
-use Rattle.text.specs.Known.{Arrays, Kept, kept, stateIn, Sound, Sized, Fits, LetsRead, after}
-use Rattle.text.specs.Found.{formTold, toldIn, Told}
+use Rattle.text.specs.Known.{Arrays, Kept, kept, stateIn, Sound, Sized}
+use Rattle.text.specs.Added.{Fits}
+use Rattle.text.specs.Stored.{LetsHeld, after}
+use Rattle.lookup.specs.Found.{formTold, toldIn, Told}
 use Rattle.text.specs.Taken.{firstFault, faultOf, takes, stepOf, outcomeIn, Took}
-use Rattle.text.proofs.Laws.Keeping.{no-fault}
+use Rattle.rules.proofs.Laws.Keeping.{no-fault}
 
 -- ---- faults
 
@@ -60,8 +64,9 @@ unfolding unless
 unless-any zero a b h = absurd (h refl)
 unless-any (suc e) a b h = refl
 
-module _ (s t : List ℕ) (k : Known) (K : Sound k) (n : ℕ) (stands : Bool) {o : Option Record} where
-  bad : none ≡ o → Took s t k n stands o (stepOf 5 k Nothing)
+module _ (s t : List ℕ) (k : Known) (K : Sound k) (n : ℕ) (stands : Bool) {o : Option Record}
+    {codes : List ℕ} where
+  bad : none ≡ o → Took s t codes k n stands o (stepOf 5 k Nothing)
   unfolding outcomeIn takes unless stepOf
   bad e =
       record {
@@ -74,11 +79,11 @@ module _ (s t : List ℕ) (k : Known) (K : Sound k) (n : ℕ) (stands : Bool) {o
       }
 
   -- a field is not of its form
-  pub took-bad : none ≡ o → {r : Step} → r ≡ stepOf 5 k Nothing → Took s t k n stands o r
-  took-bad e q = subst (Took s t k n stands o) (sym q) (bad e)
+  pub took-bad : none ≡ o → {r : Step} → r ≡ stepOf 5 k Nothing → Took s t codes k n stands o r
+  took-bad e q = subst (Took s t codes k n stands o) (sym q) (bad e)
 
   module _ (q : Record) (here : some q ≡ o) where
-    deep : nests q ≡ true → Took s t k n stands o (stepOf 13 k Nothing)
+    deep : nests q ≡ true → Took s t codes k n stands o (stepOf 13 k Nothing)
     unfolding outcomeIn takes stepOf after faultOf
     deep d =
         record {
@@ -96,13 +101,13 @@ module _ (s t : List ℕ) (k : Known) (K : Sound k) (n : ℕ) (stands : Bool) {o
         }
 
     -- the record nests too deep
-    pub took-deep : nests q ≡ true → {r : Step} → r ≡ stepOf 13 k Nothing → Took s t k n stands o r
-    took-deep d p = subst (Took s t k n stands o) (sym p) (deep d)
+    pub took-deep : nests q ≡ true → {r : Step} → r ≡ stepOf 13 k Nothing → Took s t codes k n stands o r
+    took-deep d p = subst (Took s t codes k n stands o) (sym p) (deep d)
 
   module _ (q : Record) (here : some q ≡ o) {a b c d : Bool} where
     fault : {e : ℕ} → e ≡ firstFault stands a b c d → (e ≡ 0 → ⊥)
         → ((x : Arrays) → Sized (kept t k x) → Tested (stateIn s (kept t k x)) q a b c d)
-        → Took s t k n stands o (stepOf e k Nothing)
+        → Took s t codes k n stands o (stepOf e k Nothing)
     unfolding outcomeIn takes stepOf after
     fault {e = e} f z T =
         record {
@@ -121,16 +126,16 @@ module _ (s t : List ℕ) (k : Known) (K : Sound k) (n : ℕ) (stands : Bool) {o
     -- the record has a fault
     pub took-fault : {e : ℕ} → e ≡ firstFault stands a b c d → (e ≡ 0 → ⊥)
         → ((x : Arrays) → Sized (kept t k x) → Tested (stateIn s (kept t k x)) q a b c d)
-        → {r : Step} → r ≡ stepOf e k Nothing → Took s t k n stands o r
-    took-fault f z T p = subst (Took s t k n stands o) (sym p) (fault f z T)
+        → {r : Step} → r ≡ stepOf e k Nothing → Took s t codes k n stands o r
+    took-fault f z T p = subst (Took s t codes k n stands o) (sym p) (fault f z T)
 
     -- what the record adds is in the step, and its refusal tells whether it stands
     pub took-grown : (r : Step) → r .refusal ≡ firstFault stands a b c d
         → r .known .stage ≡ k .stage → Sound (r .known) → Fits k (r .put)
-        → LetsRead s t k (r .put)
+        → LetsHeld s t codes k (r .put)
         → ((x : Arrays) → Sized (kept t k x) → Tested (stateIn s (kept t k x)) q a b c d)
         → ((x : Arrays) → Sized (kept t k x) → stateIn s (after s (kept t k x) r) ≡ added n q (stateIn s (kept t k x)))
-        → Took s t k n stands o r
+        → Took s t codes k n stands o r
     unfolding outcomeIn takes
     took-grown r f g R F W T M =
         record {
@@ -149,10 +154,10 @@ module _ (s t : List ℕ) (k : Known) (K : Sound k) (n : ℕ) (stands : Bool) {o
         → (j : Known) → j .stage ≡ k .stage → Sound j
         → ((x : Arrays) → Sized (kept t k x) → Tested (stateIn s (kept t k x)) q a b c d)
         → ((x : Arrays) → stateIn s (kept t j x) ≡ added n q (stateIn s (kept t k x)))
-        → {r : Step} → r ≡ stepOf e j Nothing → Took s t k n stands o r
+        → {r : Step} → r ≡ stepOf e j Nothing → Took s t codes k n stands o r
     unfolding stepOf after
     took-set {e = e} f j g R T M p =
-        subst (Took s t k n stands o) (sym p) (took-grown (stepOf e j Nothing) f g R tt tt T (λ x y. M x))
+        subst (Took s t codes k n stands o) (sym p) (took-grown (stepOf e j Nothing) f g R tt tt T (λ x y. M x))
 
 -- ---- counts
 

@@ -14,19 +14,22 @@ use Rattle.grammar.specs.Record.{Record, Form, assign}
 use Rattle.grammar.proofs.Laws.Written.{SpeltForm}
 use Rattle.grammar.proofs.Laws.Made.{Made, made-shares, made-map, made-input, made-origin, made-assign, made-let}
 use Rattle.grammar.proofs.Laws.Made.{made-result, made-masked, made-output}
-use Rattle.text.specs.declared.types.Op.{Op}
-use Rattle.text.specs.declared.types.Statement.{Statement}
-use Rattle.text.specs.Limits.{mostVariables, mostStatements}
-use Rattle.text.specs.Order.{inMasked}
-use Rattle.text.specs.State.{State}
-use Rattle.text.specs.Grown.{atStage, withShares, withMap, withInput, withResult, withOutputs}
-use Rattle.text.specs.Scope.{given, block, repeats, unknownForm, readsUnknown, drawn, exceeds, miscounts}
-use Rattle.text.specs.Scope.{shareNames, opIn, added}
+use Rattle.rules.specs.declared.types.Op.{Op}
+use Rattle.rules.specs.declared.types.Statement.{Statement}
+use Rattle.rules.specs.Limits.{mostVariables, mostStatements}
+use Rattle.rules.specs.Order.{inMasked}
+use Rattle.rules.specs.State.{State}
+use Rattle.rules.specs.Grown.{atStage, withShares, withMap, withInput, withResult, withOutputs}
+use Rattle.rules.specs.Scope.{given, unknownForm, drawn}
+use Rattle.rules.specs.Faults.{block, repeats, readsUnknown, exceeds, miscounts}
+use Rattle.rules.specs.Scope.{shareNames, opIn}
+use Rattle.rules.specs.Added.{added}
 use Rattle.unrolled.proofs.Laws.Set.{In, in-left, in-right}
 use Rattle.unrolled.proofs.Laws.Filled.{filled, Off, given-filled}
 use Rattle.unrolled.proofs.Laws.Reading.{missing-filled, place-read, form-known, form-read, names-known}
 use Rattle.unrolled.proofs.Laws.Reading.{names-read}
-use Rattle.unrolled.proofs.Laws.Steps.{Passes, leadsTo}
+use Rattle.rules.proofs.Laws.Keeping.{Passed}
+use Rattle.unrolled.proofs.Laws.Steps.{leadsTo}
 use Rattle.unrolled.proofs.Laws.Load.{Plain}
 use Rattle.unrolled.proofs.Laws.Blocks.{resting, namesOf, grown, grown-own, opsOf, block-names, drawing}
 use Rattle.unrolled.proofs.Laws.Blocks.{statementAt, assign-adds}
@@ -73,7 +76,7 @@ module _ (last s : State) (os ms : List Statement) (eo : opsOf os ≡ opsOf (s .
 
   -- no refusal stops a statement
   assign-passes : (b : Bool) (w : Word) (x : Name) (f : Form) → eqb (s .stage) inMasked ≡ b → Off (freeOf last b) x
-      → SpeltForm f → Passes s w (assign x f) → Passes other w (assign x f)
+      → SpeltForm f → Passed s w (assign x f) → Passed other w (assign x f)
   unfolding repeats readsUnknown exceeds miscounts renamed resting
   assign-passes b w x f e o F p =
       let free = freeOf last b in
@@ -115,9 +118,9 @@ module _ (last s : State) (os ms : List Statement) (eo : opsOf os ≡ opsOf (s .
       (stage-related last _ _ k grows))
 
   -- a statement
-  assign-alike : (n m k : ℕ) (w : Word) (x : Name) (f : Form) → Named x → SpeltForm f → Passes s w (assign x f)
+  assign-alike : (n m k : ℕ) (w : Word) (x : Name) (f : Form) → Named x → SpeltForm f → Passed s w (assign x f)
       → Below last (atStage k (added n (assign x f) s))
-      → Passes other w (assign x f)
+      → Passed other w (assign x f)
       × Related last (atStage k (added n (assign x f) s)) (atStage k (added m (assign x f) other))
   unfolding readsUnknown
   assign-alike n m k w x f h F p D =
@@ -136,9 +139,9 @@ module _ (last s : State) (os ms : List Statement) (eo : opsOf os ≡ opsOf (s .
       )
 
   -- a record that adds no name and no statement, and is stopped by nothing that goes by them
-  same-alike : (w : Word) (r : Record) (t q : State) → Passes s w r → repeats other r ≡ repeats s r
+  same-alike : (w : Word) (r : Record) (t q : State) → Passed s w r → repeats other r ≡ repeats s r
       → readsUnknown other r ≡ readsUnknown s r → exceeds other r ≡ exceeds s r → miscounts other r ≡ miscounts s r
-      → Related last t q → Passes other w r × Related last t q
+      → Related last t q → Passed other w r × Related last t q
   unfolding renamed resting
   same-alike w r t q p a b c d R = (
     record {
@@ -153,9 +156,9 @@ module _ (last s : State) (os ms : List Statement) (eo : opsOf os ≡ opsOf (s .
   )
 
   -- THEOREM: a record other than a `let` is taken alike
-  pub leads-alike : (n m : ℕ) {w : Word} {r : Record} {c : ℕ} → Made w r c → Plain (some r) → Passes s w r
+  pub leads-alike : (n m : ℕ) {w : Word} {r : Record} {c : ℕ} → Made w r c → Plain (some r) → Passed s w r
       → Below last (leadsTo s n w r)
-      → Passes (renamed last s os ms) w r × Related last (leadsTo s n w r) (leadsTo (renamed last s os ms) m w r)
+      → Passed (renamed last s os ms) w r × Related last (leadsTo s n w r) (leadsTo (renamed last s os ms) m w r)
   unfolding atStage added withShares withMap withInput withResult withOutputs renamed resting repeats readsUnknown
       exceeds miscounts namesOf
   leads-alike n m {w} {r} (made-shares h) q p D =

@@ -16,10 +16,12 @@ use Rattle.grammar.specs.Formula.{Formula}
 use Rattle.grammar.specs.Record.{Record, Form, assign, letting}
 use Rattle.grammar.proofs.Laws.Made.{Made, made-shares, made-map, made-input, made-origin, made-assign, made-let}
 use Rattle.grammar.proofs.Laws.Made.{made-result, made-masked, made-output, line-made}
-use Rattle.text.specs.Order.{inMasked}
-use Rattle.text.specs.State.{State}
-use Rattle.text.specs.Grown.{atStage, withShares, withMap, withInput, withResult, withOutputs, unnamed}
-use Rattle.text.specs.Scope.{drawn, shareNames, added}
+use Rattle.rules.specs.Order.{inMasked}
+use Rattle.rules.specs.State.{State}
+use Rattle.rules.specs.Grown.{atStage, withShares, withMap, withInput, withResult, withOutputs}
+use Rattle.rules.specs.Stated.{unnamed}
+use Rattle.rules.specs.Scope.{drawn, shareNames}
+use Rattle.rules.specs.Added.{added}
 use Rattle.unrolled.proofs.Laws.Set.{In, in-left}
 use Rattle.unrolled.proofs.Laws.Steps.{leadsTo, wordOn, line-taken}
 use Rattle.unrolled.proofs.Laws.Runs.{runs, runs-first}

@@ -10,12 +10,14 @@ use lib.ListN.{length, replicate, length-append}
 use Rattle.tokens.specs.Token.{Name}
 use Rattle.grammar.specs.Formula.{Formula}
 use Rattle.grammar.specs.Record.{Form, assign, letting}
-use Rattle.text.specs.declared.types.Op.{Op}
-use Rattle.text.specs.declared.types.Statement.{Statement}
-use Rattle.text.specs.Order.{inMasked}
-use Rattle.text.specs.State.{State}
-use Rattle.text.specs.Grown.{withOrigin, withMasked, withOriginAll, withMaskedAll, unnamed}
-use Rattle.text.specs.Scope.{block, drawn, statementCount, opIn, letOps, added}
+use Rattle.rules.specs.declared.types.Op.{Op}
+use Rattle.rules.specs.declared.types.Statement.{Statement}
+use Rattle.rules.specs.Order.{inMasked}
+use Rattle.rules.specs.State.{State}
+use Rattle.rules.specs.Stated.{withOrigin, withMasked, withOriginAll, withMaskedAll, unnamed}
+use Rattle.rules.specs.Scope.{drawn, opIn, letOps}
+use Rattle.rules.specs.Faults.{block, statementCount}
+use Rattle.rules.specs.Added.{added}
 
 -- what is known, with other blocks
 unfoldable pub resting : State → List Name → List Statement → List Name → List Statement → State

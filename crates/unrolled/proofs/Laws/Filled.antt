@@ -1,5 +1,5 @@
 -- The names of a set, those of no field replaced by free ones: every other name keeps its place. Assumes nothing.
-use Prim.Native.Nat.{ℕ, zero, suc, _+_, _-_, _≤_, _<_}
+use Prim.Native.Nat.{ℕ, zero, suc, _+_, _≤_, _<_}
 use native.Mathlib.Omega.{arith}
 use mathlib.Core.Path.{_≡_, refl, sym, ap, ap₂, _∙_}
 use mathlib.Core.Logic.{_⊎_, inl, inr}
@@ -12,8 +12,8 @@ use Rattle.tokens.specs.Split.{later, until}
 use Rattle.tokens.specs.Token.{Name, sameName}
 use Rattle.tokens.proofs.Laws.Flags.{true-false}
 use Rattle.tokens.proofs.Laws.Numbered.{name-same}
-use Rattle.text.specs.Grown.{unnamed}
-use Rattle.text.specs.Scope.{placeOf, given}
+use Rattle.rules.specs.Stated.{unnamed}
+use Rattle.rules.specs.Scope.{placeOf, given}
 use Rattle.unrolled.specs.Unrolled.{isUnnamed, unnamedIn}
 use Rattle.unrolled.proofs.Laws.Set.{In}
 

@@ -12,7 +12,7 @@ use Rattle.tokens.specs.Token.{Name, sameName}
 use Rattle.tokens.specs.Written.{numbered}
 use Rattle.tokens.proofs.Laws.Written.{Named}
 use Rattle.tokens.proofs.Laws.Numbered.{name-same, name-self, mostNumber, numbered-same, numbered-named}
-use Rattle.text.specs.Scope.{missing}
+use Rattle.rules.specs.Scope.{missing}
 use Rattle.unrolled.specs.Unrolled.{isUnnamed, unnamedIn, kept, numberedFrom, freeNames}
 use Rattle.unrolled.proofs.Laws.Set.{In, given-out, missing-in, missing-out, name-dec, in-dec}
 

@@ -1,5 +1,5 @@
 -- The names that the statements of a `let` give in the unrolled form are new, each of them. Assumes nothing.
-use Prim.Native.Nat.{ℕ, zero, suc, _+_, _-_, _≤_, _<_}
+use Prim.Native.Nat.{ℕ, zero, suc, _+_, _≤_, _<_}
 use native.Mathlib.Omega.{arith}
 use native.Mathlib.Decide.{decLe}
 use mathlib.Core.Path.{_≡_, refl, sym, ap, _∙_, subst}
@@ -10,7 +10,7 @@ use lib.Seq.{length-take-le, getD-take, getD-drop, getD-at}
 use Rattle.tokens.specs.Token.{Name}
 use Rattle.tokens.proofs.Laws.Written.{Named}
 use Rattle.tokens.proofs.Laws.Numbered.{mostNumber}
-use Rattle.text.specs.Grown.{unnamed}
+use Rattle.rules.specs.Stated.{unnamed}
 use Rattle.unrolled.specs.Unrolled.{isUnnamed, unnamedIn, freeNames}
 use Rattle.unrolled.proofs.Laws.Set.{In, in-left, in-right, in-parts}
 use Rattle.unrolled.proofs.Laws.Free.{Distinct, free-count, free-distinct, free-out, free-named}

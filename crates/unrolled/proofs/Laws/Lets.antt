@@ -6,7 +6,7 @@ use mathlib.Core.Bool.{Bool, true, false}
 use mathlib.Core.List.{List, [], _∷_, _++_, map as mapList}
 use mathlib.Core.Option.{some}
 use lib.Dec.{eqb}
-use lib.ListN.{length, take, drop, getD, replicate, length-map}
+use lib.ListN.{length, take, drop, getD, replicate}
 use borrow.Author.Tests.{ltb-false}
 use Rattle.tokens.specs.declared.word.Word.the-variants as Word
 use Rattle.tokens.specs.Byte.{Each}
@@ -16,22 +16,27 @@ use Rattle.tokens.proofs.Laws.Numbered.{mostNumber}
 use Rattle.grammar.specs.Formula.{Formula}
 use Rattle.grammar.specs.Record.{letting}
 use Rattle.grammar.proofs.Laws.Spelt.{Spelt}
-use Rattle.text.specs.declared.types.Op.{Op}
-use Rattle.text.specs.declared.types.Statement.{Statement}
-use Rattle.text.specs.Limits.{mostStatements}
-use Rattle.text.specs.Order.{inMasked}
-use Rattle.text.specs.State.{State}
-use Rattle.text.specs.Grown.{atStage, unnamed}
-use Rattle.text.specs.Scope.{placeOf, given, block, repeats, unknownFormula, readsUnknown, statementCount, letCount}
-use Rattle.text.specs.Scope.{exceeds, letOps}
+use Rattle.rules.specs.declared.types.Op.{Op}
+use Rattle.rules.specs.declared.types.Statement.{Statement}
+use Rattle.rules.specs.Limits.{mostStatements}
+use Rattle.rules.specs.Order.{inMasked}
+use Rattle.rules.specs.State.{State}
+use Rattle.rules.specs.Grown.{atStage}
+use Rattle.rules.specs.Stated.{unnamed}
+use Rattle.rules.specs.Scope.{placeOf, given, unknownFormula, letCount}
+use Rattle.rules.specs.Faults.{block, repeats, readsUnknown, statementCount}
+use Rattle.rules.specs.Scope.{letOps}
+use Rattle.rules.specs.Faults.{exceeds}
 use Rattle.unrolled.specs.Unrolled.{unnamedIn, freeNames, letNames, letLines, recordOf, namesFor}
 use Rattle.unrolled.proofs.Laws.Set.{In, in-missing, out-given}
 use Rattle.unrolled.proofs.Laws.Free.{named-not}
 use Rattle.unrolled.proofs.Laws.Filled.{filled, filled-length, filled-append, filled-let}
 use Rattle.unrolled.proofs.Laws.Reading.{missing-filled, place-read}
-use Rattle.unrolled.proofs.Laws.Steps.{Passes, leadsTo}
+use Rattle.rules.proofs.Laws.Keeping.{Passed}
+use Rattle.unrolled.proofs.Laws.Steps.{leadsTo}
 use Rattle.unrolled.proofs.Laws.Runs.{runs}
-use Rattle.unrolled.proofs.Laws.Bounded.{Bounded, let-length}
+use Rattle.rules.proofs.Laws.Letting.{let-length, let-some}
+use Rattle.rules.proofs.Laws.Limits.{Bounded}
 use Rattle.unrolled.proofs.Laws.Load.{Plain}
 use Rattle.unrolled.proofs.Laws.Blocks.{resting, namesOf, grown, grown-same, grown-own, opsOf, block-names}
 use Rattle.unrolled.proofs.Laws.Blocks.{statementsAt, let-adds}
@@ -63,7 +68,7 @@ pub record Unrolls (last t q : State) (m : ℕ) (ls : List (List ℕ)) : Type 0 
 
 module _ (last s : State) (os ms : List Statement) (eo : opsOf os ≡ opsOf (s .origin .statements))
     (em : opsOf ms ≡ opsOf (s .masked .statements)) (B : Below last s) (K : Bounded s) (D : Bounded last) (n m : ℕ)
-    (x : Name) (f : Formula) (named : Named x) (S : Spelt f) (p : Passes s Word.Let (letting x f))
+    (x : Name) (f : Formula) (named : Named x) (S : Spelt f) (p : Passed s Word.Let (letting x f))
     (C : Below last (leadsTo s n Word.Let (letting x f))) (b : Bool) (e : eqb (s .stage) inMasked ≡ b) where
   -- the names of the block above the `let`
   abbrev ns : List Name
@@ -78,7 +83,7 @@ module _ (last s : State) (os ms : List Statement) (eo : opsOf os ≡ opsOf (s .
   c = letCount f - 1
 
   count : c + 1 ≡ letCount f
-  count = omega (arith, let-length [] [] 0 f .1)
+  count = omega (arith, let-some f)
 
   -- the names that the `let` adds
   abbrev adds : List Name
@@ -87,8 +92,7 @@ module _ (last s : State) (os ms : List Statement) (eo : opsOf os ≡ opsOf (s .
   adds-are : replicate c unnamed ++ x ∷ [] ≡ adds
   adds-are =
       ap (λ (i : ℕ). replicate (i - 1) unnamed ++ x ∷ [])
-      (sym (length-map (letOps ns (s .mapNames) (length ns) f) (λ o. record { op = o; line = n })
-      ∙ let-length ns (s .mapNames) (length ns) f .0))
+      (sym (let-length ns (s .mapNames) (length ns) n f))
 
   -- what the `let` leads to
   leads : leadsTo s n Word.Let (letting x f) ≡ grown b s adds (statementsAt b s n f)

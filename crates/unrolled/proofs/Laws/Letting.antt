@@ -16,29 +16,24 @@ use Rattle.grammar.specs.Record.{Form, set, xor, mul, app}
 use Rattle.grammar.specs.Written.{writtenLine}
 use Rattle.grammar.proofs.Laws.Written.{SpeltForm, wordFor}
 use Rattle.grammar.proofs.Laws.Spelt.{Spelt}
-use Rattle.text.specs.declared.types.Operand.{Operand}
-use Rattle.text.specs.declared.types.Op.{Op}
-use Rattle.text.specs.declared.types.Op.the-variants as Op
-use Rattle.text.specs.declared.types.Statement.{Statement}
-use Rattle.text.specs.Order.{mayStand}
-use Rattle.text.specs.State.{State}
-use Rattle.text.specs.Grown.{unnamed}
-use Rattle.text.specs.Scope.{placeOf, missing, unknownForm, unknownFormula, drawn, letCount, operandIn, opIn}
-use Rattle.text.specs.Scope.{valueOf, compiled, letOps}
+use Rattle.rules.specs.declared.types.Operand.{Operand}
+use Rattle.rules.specs.declared.types.Op.{Op}
+use Rattle.rules.specs.declared.types.Op.the-variants as Op
+use Rattle.rules.specs.declared.types.Statement.{Statement}
+use Rattle.rules.specs.Order.{mayStand}
+use Rattle.rules.specs.State.{State}
+use Rattle.rules.specs.Stated.{unnamed}
+use Rattle.rules.specs.Scope.{placeOf, missing, unknownForm, unknownFormula, drawn, letCount, operandIn, opIn}
+use Rattle.rules.specs.Scope.{valueOf, compiled, letOps}
 use Rattle.unrolled.specs.Unrolled.{termFor, linesFor, letLines, recordOf}
 use Rattle.unrolled.proofs.Laws.Set.{given-out}
 use Rattle.unrolled.proofs.Laws.Runs.{runs, runs-next, runs-none, runs-append}
 use Rattle.tokens.proofs.Laws.Flags.{or-false}
-use Rattle.unrolled.proofs.Laws.Bounded.{compiled-length}
+use Rattle.rules.proofs.Laws.Letting.{compiled-length, each-append}
 use Rattle.unrolled.proofs.Laws.Load.{Plain}
 use Rattle.unrolled.proofs.Laws.Blocks.{grown, grown-none, opsOf, statementAt}
 use Rattle.unrolled.proofs.Laws.Written.{written-plain, written-taken, written-op}
 use Rattle.unrolled.proofs.Laws.Operands.{Ready, upTo, term-is, Twofold, xor-twofold, mul-twofold}
-
--- each line of two lists
-pub each-append : (P : List ℕ → Type 0) (ks ls : List (List ℕ)) → Each P ks → Each P ls → Each P (ks ++ ls)
-each-append P [] ls h k = k
-each-append P (l ∷ ks) ls h k = (h .0, each-append P ks ls (h .1) k)
 
 module _ (b : Bool) (q : State) (ms ns : List Name) (R : Ready b q ms ns) where
   -- the lines ls are taken behind `at` statements of the `let`, and add c statements, which compute ops

@@ -11,11 +11,11 @@ use lib.ListN.{length, take, getD}
 use Rattle.poly.specs.Poly.{Poly}
 use Rattle.field.specs.Laws.{gf}
 use Rattle.poly.specs.First.{firstDiffering}
-use Rattle.text.specs.declared.types.Op.{Op}
-use Rattle.text.specs.declared.types.Op.the-variants.{Set, Xor, Mul, App, Rand}
-use Rattle.text.specs.declared.types.Statement.{Statement}
-use Rattle.text.specs.declared.types.AffineMap.{AffineMap}
-use Rattle.text.specs.Read.{Routine}
+use Rattle.rules.specs.declared.types.Op.{Op}
+use Rattle.rules.specs.declared.types.Op.the-variants.{Set, Xor, Mul, App, Rand}
+use Rattle.rules.specs.declared.types.Statement.{Statement}
+use Rattle.rules.specs.declared.types.AffineMap.{AffineMap}
+use Rattle.rules.specs.Read.{Routine}
 use Rattle.verdict.specs.Lists.{lots, tabulate}
 use Rattle.verdict.specs.Meaning.{Algebra, Trace, given, values, trace, originValues, maskedValues, resultIn}
 use Rattle.verdict.specs.Meaning.{outputsIn, joinedIn, differenceIn}

@@ -17,21 +17,25 @@ use Rattle.tokens.specs.Byte.{Each}
 use Rattle.tokens.specs.Split.{pieces}
 use Rattle.grammar.specs.Record.{Record, Form, shares, map, input, origin, assign, letting, result, masked, output}
 use Rattle.grammar.specs.Record.{set, xor, mul, app, rand}
-use Rattle.text.specs.declared.types.Statement.{Statement}
-use Rattle.text.specs.Order.{inMasked, stageAfter}
-use Rattle.text.specs.State.{State}
-use Rattle.text.specs.Grown.{atStage, withShares, withMap, withInput, withOrigin, withMasked, withResult}
-use Rattle.text.specs.Grown.{withOutputs}
-use Rattle.text.specs.Scope.{block, drawn, opIn, added}
+use Rattle.rules.specs.declared.types.Statement.{Statement}
+use Rattle.rules.specs.Order.{inMasked, stageAfter}
+use Rattle.rules.specs.State.{State}
+use Rattle.rules.specs.Grown.{atStage, withShares, withMap, withInput, withResult}
+use Rattle.rules.specs.Stated.{withOrigin, withMasked}
+use Rattle.rules.specs.Grown.{withOutputs}
+use Rattle.rules.specs.Scope.{drawn, opIn}
+use Rattle.rules.specs.Faults.{block}
+use Rattle.rules.specs.Added.{added}
 use Rattle.unrolled.specs.Unrolled.{recordOf}
 use Rattle.tokens.proofs.Laws.Some.{some-same}
 use Rattle.tokens.proofs.Laws.Joined.{weight, pieces-weight}
 use Rattle.grammar.proofs.Laws.Made.{Made, made-shares, made-map, made-input, made-origin, made-assign, made-let}
 use Rattle.grammar.proofs.Laws.Made.{made-result, made-masked, made-output, line-made}
 use Rattle.grammar.proofs.Laws.Written.{wordFor}
-use Rattle.unrolled.proofs.Laws.Steps.{Passes, leadsTo, line-taken}
+use Rattle.rules.proofs.Laws.Keeping.{Passed}
+use Rattle.unrolled.proofs.Laws.Steps.{leadsTo, line-taken}
 use Rattle.unrolled.proofs.Laws.Runs.{runs, runs-first}
-use Rattle.unrolled.proofs.Laws.Bounded.{Bounded}
+use Rattle.rules.proofs.Laws.Limits.{Bounded}
 
 -- no `let`
 abbrev pub Plain : Option Record → Type 0
@@ -114,7 +118,7 @@ assign-load s n k c x f e h = go (eqb (s .stage) inMasked)
     go false = omega (arith, ap stageLoad e, length-append (s .origin .statements) (st ∷ []))
 
 -- a record that no refusal stops pays for its line
-leads-load : (s : State) (n : ℕ) {w : Word} {r : Record} {c : ℕ} → Made w r c → Plain (some r) → Passes s w r
+leads-load : (s : State) (n : ℕ) {w : Word} {r : Record} {c : ℕ} → Made w r c → Plain (some r) → Passed s w r
     → c + load s ≤ load (leadsTo s n w r)
 unfolding load stageLoad atStage added withShares withMap withInput withResult withOutputs
 leads-load s n (made-shares h) q p = omega (arith, ap stageLoad (eqb-true (s .stage) 0 (p .stands)))

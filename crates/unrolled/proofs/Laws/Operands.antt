@@ -18,16 +18,17 @@ use Rattle.grammar.specs.Formula as formula
 use Rattle.grammar.specs.Record.{Form, xor, mul}
 use Rattle.grammar.proofs.Laws.Written.{SpeltForm, wordFor}
 use Rattle.grammar.proofs.Laws.Spelt.{Spelt}
-use Rattle.text.specs.declared.types.Operand.{Operand}
-use Rattle.text.specs.declared.types.Operand.the-variants.{Place}
-use Rattle.text.specs.declared.types.Op.{Op}
-use Rattle.text.specs.declared.types.Op.the-variants as Op
-use Rattle.text.specs.Limits.{mostVariables, mostStatements}
-use Rattle.text.specs.Order.{inMasked, mayStand}
-use Rattle.text.specs.State.{State}
-use Rattle.text.specs.Grown.{unnamed}
-use Rattle.text.specs.Scope.{placeOf, missing, unknownTerm, unknownForm, unknownFormula, drawn, statementCount}
-use Rattle.text.specs.Scope.{operandIn, opIn, valueOf}
+use Rattle.rules.specs.declared.types.Operand.{Operand}
+use Rattle.rules.specs.declared.types.Operand.the-variants.{Place}
+use Rattle.rules.specs.declared.types.Op.{Op}
+use Rattle.rules.specs.declared.types.Op.the-variants as Op
+use Rattle.rules.specs.Limits.{mostVariables, mostStatements}
+use Rattle.rules.specs.Order.{inMasked, mayStand}
+use Rattle.rules.specs.State.{State}
+use Rattle.rules.specs.Stated.{unnamed}
+use Rattle.rules.specs.Scope.{placeOf, missing, unknownTerm, unknownForm, unknownFormula, drawn}
+use Rattle.rules.specs.Faults.{statementCount}
+use Rattle.rules.specs.Scope.{operandIn, opIn, valueOf}
 use Rattle.unrolled.specs.Unrolled.{termFor}
 use Rattle.unrolled.proofs.Laws.Set.{In, in-left, in-right, missing-in, place-left, place-next}
 use Rattle.unrolled.proofs.Laws.Blocks.{namesOf}

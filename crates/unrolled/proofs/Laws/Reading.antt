@@ -3,9 +3,9 @@ use Prim.Native.Nat.{ℕ}
 use mathlib.Core.Path.{_≡_, refl, ap, ap₂, _∙_}
 use mathlib.Core.Bool.{false, not}
 use mathlib.Core.List.{List, [], _∷_, map as mapList}
-use Rattle.text.specs.declared.types.Operand.the-variants.{Place}
-use Rattle.text.specs.declared.types.Op.{Op}
-use Rattle.text.specs.declared.types.Op.the-variants.{Set, Xor, Mul, App}
+use Rattle.rules.specs.declared.types.Operand.the-variants.{Place}
+use Rattle.rules.specs.declared.types.Op.{Op}
+use Rattle.rules.specs.declared.types.Op.the-variants.{Set, Xor, Mul, App}
 use Rattle.tokens.specs.Ascii.{any}
 use Rattle.tokens.specs.Byte.{Each}
 use Rattle.tokens.specs.Token.{Name, Term, name, byte}
@@ -13,7 +13,7 @@ use Rattle.tokens.proofs.Laws.Written.{Named}
 use Rattle.tokens.proofs.Laws.Terms.{Termed}
 use Rattle.grammar.specs.Record.{Form, set, xor, mul, app, rand}
 use Rattle.grammar.proofs.Laws.Written.{SpeltForm}
-use Rattle.text.specs.Scope.{placeOf, missing, unknownTerm, unknownForm, operandIn, opIn}
+use Rattle.rules.specs.Scope.{placeOf, missing, unknownTerm, unknownForm, operandIn, opIn}
 use Rattle.unrolled.proofs.Laws.Set.{In, in-missing}
 use Rattle.unrolled.proofs.Laws.Filled.{filled, Off, place-filled, given-filled}
 use Rattle.tokens.proofs.Laws.Flags.{or-false}

@@ -11,11 +11,12 @@ use lib.ListN.{length, getD, length-map, List·getD-eq-default}
 use Rattle.tokens.specs.Token.{Name}
 use Rattle.tokens.proofs.Laws.Flags.{true-false}
 use Rattle.tokens.proofs.Laws.Written.{Named}
-use Rattle.text.specs.declared.types.Op.{Op}
-use Rattle.text.specs.declared.types.Statement.{Statement}
-use Rattle.text.specs.State.{State}
-use Rattle.text.specs.Grown.{unnamed}
-use Rattle.text.specs.Scope.{shareNames, statementCount}
+use Rattle.rules.specs.declared.types.Op.{Op}
+use Rattle.rules.specs.declared.types.Statement.{Statement}
+use Rattle.rules.specs.State.{State}
+use Rattle.rules.specs.Stated.{unnamed}
+use Rattle.rules.specs.Scope.{shareNames}
+use Rattle.rules.specs.Faults.{statementCount}
 use Rattle.unrolled.specs.Unrolled.{isUnnamed, unnamedIn, freeNames}
 use Rattle.unrolled.proofs.Laws.Set.{In}
 use Rattle.unrolled.proofs.Laws.Free.{named-not, free-out}

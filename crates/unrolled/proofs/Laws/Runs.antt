@@ -8,10 +8,10 @@ use mathlib.Core.Option.{Option, none, some}
 use lib.Dec.{eqb}
 use lib.ListN.{length}
 use borrow.Author.Tests.{eqb-true, eq-eqb}
-use Rattle.text.specs.Order.{atEnd}
-use Rattle.text.specs.State.{State}
-use Rattle.text.specs.Read.{Routine, Reading, refused, accepted, Outcome, stop, next, takeLine, routine, takeLast}
-use Rattle.text.specs.Read.{follow, takeLines}
+use Rattle.rules.specs.Order.{atEnd}
+use Rattle.rules.specs.State.{State}
+use Rattle.rules.specs.Read.{Routine, Reading, refused, accepted, Outcome, stop, next, takeLine, routine, takeLast}
+use Rattle.rules.specs.Read.{follow, takeLines}
 use Rattle.unrolled.specs.Unrolled.{led, behindLines}
 use Rattle.tokens.proofs.Laws.Some.{none-some, some-same}
 

@@ -2,31 +2,22 @@
 use Prim.Native.Nat.{ℕ, zero, suc}
 use native.Mathlib.Omega.{arith}
 use mathlib.Core.Path.{_≡_, refl, ap, _∙_}
-use mathlib.Core.Bool.{Bool, true, false, not, cond}
-use mathlib.Core.List.{List, [], _∷_}
+use mathlib.Core.Bool.{Bool, true, false, cond}
+use mathlib.Core.List.{List}
 use mathlib.Core.Option.{Option, none, some}
-use borrow.Author.Tests.{not-false}
 use Rattle.tokens.specs.declared.word.Word.{Word}
 use Rattle.tokens.specs.Ascii.{all, allowed, tab}
 use Rattle.tokens.specs.Split.{pieces}
 use Rattle.tokens.specs.Word.{wordOf}
-use Rattle.grammar.specs.Record.{Record, field, recordFor, nests}
-use Rattle.text.specs.Order.{mayStand, stageAfter}
-use Rattle.text.specs.State.{State}
-use Rattle.text.specs.Grown.{atStage}
-use Rattle.text.specs.Scope.{repeats, readsUnknown, exceeds, miscounts, added}
-use Rattle.text.specs.Read.{Fault, firstOf, stop, next, unless, takeRecord, takePieces, takeLine}
+use Rattle.grammar.specs.Record.{Record, field, recordFor}
+use Rattle.rules.specs.Order.{stageAfter}
+use Rattle.rules.specs.State.{State}
+use Rattle.rules.specs.Grown.{atStage}
+use Rattle.rules.specs.Added.{added}
+use Rattle.rules.specs.Read.{firstOf, stop, next, unless, takeRecord, takePieces, takeLine}
+use Rattle.rules.proofs.Laws.Keeping.{Passed, faults, passed}
 
 -- ---- one line
-
--- a record that no refusal stops
-pub record Passes (s : State) (w : Word) (r : Record) : Type 0 where
-  pub shallow : nests r ≡ false
-  pub stands : mayStand w (s .stage) ≡ true
-  pub fresh : repeats s r ≡ false
-  pub known : readsUnknown s r ≡ false
-  pub within : exceeds s r ≡ false
-  pub counted : miscounts s r ≡ false
 
 -- what a record of a word leads to
 abbrev pub leadsTo : State → ℕ → Word → Record → State
@@ -41,7 +32,7 @@ pub record Taken (s : State) (n : ℕ) (l : List ℕ) (t : State) : Type 0 where
   pub bytes : all allowed l ≡ true
   pub made : Record
   pub makes : recordFor (wordOn l) (pieces tab l) ≡ some made
-  pub passes : Passes s (wordOn l) made
+  pub passes : Passed s (wordOn l) made
   pub leads : leadsTo s n (wordOn l) made ≡ t
 
 stop-next : {A : Type 0} {e : ℕ} {t : State} → stop e ≡ next t → A
@@ -50,42 +41,8 @@ stop-next {e = e} {t = t} h = let z : _≡_ {A = ℕ} 0 1 = cc in absurd (omega 
 next-same : {s t : State} → next s ≡ next t → s ≡ t
 next-same h = cc
 
--- where no fault is found, none is there
-no-fault : (e : ℕ) (b : Bool) (fs : List Fault) → firstOf ((suc e, b) ∷ fs) ≡ 0 → (b ≡ false) × (firstOf fs ≡ 0)
+none-passes : (s : State) (w : Word) (r : Record) → Passed s w r → firstOf (faults s w r) ≡ 0
 unfolding firstOf
-no-fault e true fs h = absurd (omega arith)
-no-fault e false fs h = (refl, h)
-
-faults : State → Word → Record → List Fault
-faults s w r =
-    (13, nests r) ∷ (6, not (mayStand w (s .stage))) ∷ (7, repeats s r) ∷ (8, readsUnknown s r) ∷ (9, exceeds s r)
-    ∷ (10, miscounts s r) ∷ []
-
-passes-none : (s : State) (w : Word) (r : Record) → firstOf (faults s w r) ≡ 0 → Passes s w r
-unfolding faults
-passes-none s w r z =
-    let five : List Fault = (10, miscounts s r) ∷ [] in
-    let four : List Fault = (9, exceeds s r) ∷ five in
-    let three : List Fault = (8, readsUnknown s r) ∷ four in
-    let two : List Fault = (7, repeats s r) ∷ three in
-    let one : List Fault = (6, not (mayStand w (s .stage))) ∷ two in
-    let n = no-fault 12 (nests r) one z in
-    let a = no-fault 5 (not (mayStand w (s .stage))) two (n .1) in
-    let b = no-fault 6 (repeats s r) three (a .1) in
-    let c = no-fault 7 (readsUnknown s r) four (b .1) in
-    let d = no-fault 8 (exceeds s r) five (c .1) in
-    let f = no-fault 9 (miscounts s r) [] (d .1) in
-    record {
-      shallow = n .0;
-      stands = not-false (mayStand w (s .stage)) (a .0);
-      fresh = b .0;
-      known = c .0;
-      within = d .0;
-      counted = f .0;
-    }
-
-none-passes : (s : State) (w : Word) (r : Record) → Passes s w r → firstOf (faults s w r) ≡ 0
-unfolding faults firstOf
 none-passes s w r p = rw (p .shallow, p .stands, p .fresh, p .known, p .within, p .counted)
 
 unless-next : (e : ℕ) (s t : State) → unless e s ≡ next t → (e ≡ 0) × (s ≡ t)
@@ -95,7 +52,7 @@ unless-next (suc e) s t h = stop-next h
 
 -- THEOREM: what is known of a line that is taken
 pub line-taken : (s : State) (n : ℕ) (l : List ℕ) (t : State) → takeLine s n l ≡ next t → Taken s n l t
-unfolding takeLine takePieces takeRecord faults
+unfolding takeLine takePieces takeRecord
 line-taken s n l t e = go (all allowed l) refl e
   where
     w : Word
@@ -106,7 +63,7 @@ line-taken s n l t e = go (all allowed l) refl e
     by a none m h = stop-next h
     by a (some r) m h =
         let k = unless-next (firstOf (faults s w r)) (leadsTo s n w r) t h in
-        record { bytes = a; made = r; makes = m; passes = passes-none s w r (k .0); leads = k .1 }
+        record { bytes = a; made = r; makes = m; passes = passed s w r (k .0); leads = k .1 }
 
     go : (b : Bool) → all allowed l ≡ b → cond b (takePieces s n (pieces tab l)) (stop 3) ≡ next t → Taken s n l t
     go true a h = by a (recordFor w (pieces tab l)) refl h
@@ -114,7 +71,7 @@ line-taken s n l t e = go (all allowed l) refl e
 
 -- THEOREM: a line whose record no refusal stops is taken
 pub taken-line : (s : State) (n : ℕ) (l : List ℕ) (t : State) → Taken s n l t → takeLine s n l ≡ next t
-unfolding takeLine takePieces takeRecord faults unless
+unfolding takeLine takePieces takeRecord unless
 taken-line s n l t k =
     let w = wordOn l in
     let r = k .made in

@@ -12,20 +12,22 @@ use Rattle.tokens.proofs.Laws.Some.{some-same}
 use Rattle.grammar.specs.Record.{Record, shares, map, input, origin, assign, letting, result, masked, output}
 use Rattle.grammar.proofs.Laws.Made.{Made, made-shares, made-map, made-input, made-origin, made-assign, made-let}
 use Rattle.grammar.proofs.Laws.Made.{made-result, made-masked, made-output, line-made}
-use Rattle.text.specs.declared.types.Statement.{Statement}
-use Rattle.text.specs.Order.{inMasked}
-use Rattle.text.specs.State.{State}
-use Rattle.text.specs.Read.{Outcome, next, takeLine}
+use Rattle.rules.specs.declared.types.Statement.{Statement}
+use Rattle.rules.specs.Order.{inMasked}
+use Rattle.rules.specs.State.{State}
+use Rattle.rules.specs.Read.{Outcome, next, takeLine}
 use Rattle.unrolled.specs.Unrolled.{recordOf, linesOf, unrolledLines, led}
-use Rattle.unrolled.proofs.Laws.Steps.{Passes, leadsTo, wordOn, line-taken, taken-line}
+use Rattle.rules.proofs.Laws.Keeping.{Passed}
+use Rattle.unrolled.proofs.Laws.Steps.{leadsTo, wordOn, line-taken, taken-line}
 use Rattle.unrolled.proofs.Laws.Runs.{runs, runs-first, runs-next, runs-none, runs-append}
-use Rattle.unrolled.proofs.Laws.Bounded.{Bounded, line-bounded}
+use Rattle.rules.proofs.Laws.Limits.{Bounded}
+use Rattle.unrolled.proofs.Laws.Bounded.{line-bounded}
 use Rattle.unrolled.proofs.Laws.Load.{Plain}
 use Rattle.unrolled.proofs.Laws.Blocks.{opsOf}
 use Rattle.unrolled.proofs.Laws.Related.{renamed}
 use Rattle.unrolled.proofs.Laws.Below.{Below, runs-below}
 use Rattle.unrolled.proofs.Laws.Alike.{leads-alike}
-use Rattle.unrolled.proofs.Laws.Letting.{each-append}
+use Rattle.rules.proofs.Laws.Letting.{each-append}
 use Rattle.unrolled.proofs.Laws.Lets.{Unrolls, let-unrolls}
 
 -- a line that is no `let` stays as it is
@@ -46,9 +48,9 @@ module _ (last s : State) (os ms : List Statement) (eo : opsOf os ≡ opsOf (s .
     (em : opsOf ms ≡ opsOf (s .masked .statements)) (K : Bounded s) (D : Bounded last) (n m : ℕ) (l : List ℕ)
     (B : Below last s) where
   -- another line
-  other-unrolls : {w : Word} {r : Record} {c : ℕ} → Made w r c → Plain (some r) → recordOf l ≡ some r → Passes s w r
+  other-unrolls : {w : Word} {r : Record} {c : ℕ} → Made w r c → Plain (some r) → recordOf l ≡ some r → Passed s w r
       → Below last (leadsTo s n w r)
-      → ((q : State) → Passes q w r → takeLine q (m + 1) l ≡ next (leadsTo q (m + 1) w r))
+      → ((q : State) → Passed q w r → takeLine q (m + 1) l ≡ next (leadsTo q (m + 1) w r))
       → Unrolls last (leadsTo s n w r) (renamed last s os ms) m (linesOf last s l (some r))
   other-unrolls {w} {r} M q e p C take =
       let A = leads-alike last s os ms eo em B n (m + 1) M q p C in
@@ -61,9 +63,9 @@ module _ (last s : State) (os ms : List Statement) (eo : opsOf os ≡ opsOf (s .
       })
 
   -- a line
-  made-unrolls : {w : Word} {r : Record} {c : ℕ} → Made w r c → recordOf l ≡ some r → Passes s w r
+  made-unrolls : {w : Word} {r : Record} {c : ℕ} → Made w r c → recordOf l ≡ some r → Passed s w r
       → Below last (leadsTo s n w r)
-      → ((q : State) → Passes q w r → takeLine q (m + 1) l ≡ next (leadsTo q (m + 1) w r))
+      → ((q : State) → Passed q w r → takeLine q (m + 1) l ≡ next (leadsTo q (m + 1) w r))
       → Unrolls last (leadsTo s n w r) (renamed last s os ms) m (linesOf last s l (some r))
   unfolding linesOf
   made-unrolls (made-shares h) e p C take = other-unrolls (made-shares h) tt e p C take

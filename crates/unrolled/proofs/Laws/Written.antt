@@ -15,15 +15,18 @@ use Rattle.tokens.proofs.Laws.Written.{Named}
 use Rattle.grammar.specs.Record.{Form, assign, recordFor, nests}
 use Rattle.grammar.specs.Written.{writtenLine}
 use Rattle.grammar.proofs.Laws.Written.{SpeltForm, wordFor, line-written}
-use Rattle.text.specs.declared.types.Op.{Op}
-use Rattle.text.specs.declared.types.Statement.{Statement}
-use Rattle.text.specs.Limits.{mostVariables, mostStatements}
-use Rattle.text.specs.Order.{inMasked, mayStand, stageAfter}
-use Rattle.text.specs.State.{State}
-use Rattle.text.specs.Grown.{atStage}
-use Rattle.text.specs.Scope.{given, repeats, unknownForm, readsUnknown, drawn, statementCount, exceeds, miscounts}
-use Rattle.text.specs.Scope.{opIn, block, added}
-use Rattle.text.specs.Read.{next, takeLine}
+use Rattle.rules.specs.declared.types.Op.{Op}
+use Rattle.rules.specs.declared.types.Statement.{Statement}
+use Rattle.rules.specs.Limits.{mostVariables, mostStatements}
+use Rattle.rules.specs.Order.{inMasked, mayStand, stageAfter}
+use Rattle.rules.specs.State.{State}
+use Rattle.rules.specs.Grown.{atStage}
+use Rattle.rules.specs.Scope.{given, unknownForm, drawn}
+use Rattle.rules.specs.Faults.{repeats, readsUnknown, statementCount, exceeds, miscounts}
+use Rattle.rules.specs.Scope.{opIn}
+use Rattle.rules.specs.Faults.{block}
+use Rattle.rules.specs.Added.{added}
+use Rattle.rules.specs.Read.{next, takeLine}
 use Rattle.unrolled.specs.Unrolled.{recordOf}
 use Rattle.unrolled.proofs.Laws.Steps.{leadsTo, taken-line}
 use Rattle.unrolled.proofs.Laws.Load.{Plain, stage-same}

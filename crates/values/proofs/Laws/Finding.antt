@@ -8,9 +8,9 @@ use Rattle.field.specs.Laws.{gf}
 use Rattle.field.specs.Maps.{coefficientsOf}
 use Rattle.poly.specs.Poly.{addPoly, mulPoly, mapPoly}
 use Rattle.poly.specs.Size.{oneIf, nonzeros}
-use Rattle.text.specs.declared.types.Operand.{Operand}
-use Rattle.text.specs.declared.types.Op.{Op}
-use Rattle.text.specs.declared.types.Op.the-variants.{Set, Xor, Mul, App, Rand}
+use Rattle.rules.specs.declared.types.Operand.{Operand}
+use Rattle.rules.specs.declared.types.Op.{Op}
+use Rattle.rules.specs.declared.types.Op.the-variants.{Set, Xor, Mul, App, Rand}
 use Rattle.verdict.specs.Meaning.{mapAt, operand, given}
 use Rattle.verdict.specs.Instances.{polynomials}
 use Rattle.verdict.specs.Count.{applySize}
@@ -18,10 +18,11 @@ use Rattle.values.specs.declared.shelf.Shelf.{Shelf}
 use Rattle.values.specs.declared.source.Source.{Source}
 use Rattle.values.specs.declared.source.Scope.{Scope}
 use Rattle.values.specs.declared.found.Found.the-variants.{Copy, Sum, Product, Image, Draw}
-use Rattle.values.specs.Source.{sourceOf, sourceSize, reach, Located, Drawn}
+use Rattle.values.specs.Source.{sourceOf, sourceSize, reach, Narrow, Located, Drawn}
 use Rattle.values.specs.Raw.{rawIn, Mapped}
 use Rattle.values.specs.Found.{foundValue, foundSize, FoundFor}
 use Rattle.values.proofs.Laws.Sources.{source-length}
+use Rattle.values.proofs.Laws.Sizes.{located-small}
 
 -- the terms of an operand, counted
 size-is : (m w : ℕ) (b : List ℕ) {s : Scope} {d : Shelf} {a : Operand} {r : Source} → Located s d a r
@@ -38,33 +39,36 @@ module _ {s : Scope} {d : Shelf} {x : Op} where
     means = λ m w lists constants b maps u. l .means m w b;
     sized = λ m w lists constants b maps u. size-is m w b l;
     fits = λ w h g. l .fits w h;
+    small = λ h. tt;
   }
 
   -- xor
-  pub xor-found : {a b : Operand} {r t : Source} → x ≡ Xor a b → Located s d a r → Located s d b t
+  pub xor-found : {a b : Operand} {r t : Source} → x ≡ Xor a b → Narrow s d → Located s d a r → Located s d b t
       → FoundFor s d x (Sum r t)
   unfolding foundValue foundSize given rawIn polynomials
-  xor-found {r = r} {t} e l n = subst (λ (o : Op). FoundFor s d o (Sum r t)) (sym e) record {
+  xor-found {r = r} {t} e N l n = subst (λ (o : Op). FoundFor s d o (Sum r t)) (sym e) record {
     means = λ m w lists constants b maps u. ap₂ (addPoly (gf m)) (l .means m w b) (n .means m w b);
     sized = λ m w lists constants b maps u. ap₂ (λ (y z : ℕ). y + z) (size-is m w b l) (size-is m w b n);
     fits = λ w h g. (l .fits w h, n .fits w h);
+    small = λ h. (located-small N h l, located-small N h n);
   }
 
   -- mul
-  pub mul-found : {a b : Operand} {r t : Source} → x ≡ Mul a b → Located s d a r → Located s d b t
+  pub mul-found : {a b : Operand} {r t : Source} → x ≡ Mul a b → Narrow s d → Located s d a r → Located s d b t
       → FoundFor s d x (Product r t)
   unfolding foundValue foundSize given rawIn polynomials
-  mul-found {r = r} {t} e l n = subst (λ (o : Op). FoundFor s d o (Product r t)) (sym e) record {
+  mul-found {r = r} {t} e N l n = subst (λ (o : Op). FoundFor s d o (Product r t)) (sym e) record {
     means = λ m w lists constants b maps u. ap₂ (mulPoly (gf m)) (l .means m w b) (n .means m w b);
     sized = λ m w lists constants b maps u. ap₂ (λ (y z : ℕ). y * z) (size-is m w b l) (size-is m w b n);
     fits = λ w h g. (l .fits w h, n .fits w h);
+    small = λ h. (located-small N h l, located-small N h n);
   }
 
   -- app
-  pub app-found : {f : ℕ} {a : Operand} {r : Source} → x ≡ App f a → Mapped x → Located s d a r
+  pub app-found : {f : ℕ} {a : Operand} {r : Source} → x ≡ App f a → Narrow s d × Mapped x → Located s d a r
       → FoundFor s d x (Image f r)
   unfolding foundValue foundSize given rawIn polynomials applySize
-  app-found {f} {a} {r} e n l =
+  app-found {f} {a} {r} e (N, n) l =
       let inside : f < 8 = subst Mapped e n in
       subst (λ (o : Op). FoundFor s d o (Image f r)) (sym e) record {
         means = λ m w lists constants b maps u.
@@ -78,6 +82,7 @@ module _ {s : Scope} {d : Shelf} {x : Op} where
             ∙ ap (λ (y : ℕ). nonzeros (coefficientsOf m (mapAt maps f .columns)) * y + oneIf (mapAt maps f .constant))
             (size-is m w b l);
         fits = λ w h g. (inside, l .fits w h);
+        small = λ h. (inside, located-small N h l);
       }
 
   -- rand
@@ -87,4 +92,5 @@ module _ {s : Scope} {d : Shelf} {x : Op} where
     means = λ m w lists constants b maps u. l .means m w b;
     sized = λ m w lists constants b maps u. refl;
     fits = λ w h g. (l .fits w (d .top) g, l .few);
+    small = λ h. tt;
   }

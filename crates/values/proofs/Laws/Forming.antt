@@ -129,10 +129,6 @@ module _ {w : ℕ} {left : List ℕ} {a b : Source} {right : List ℕ} where
       (ap (λ (x : ℕ). readTerms (w - 1) r x (sourceSize a)) (sym (zero-mul w)) ∙ q .first)
       (ap (λ (x : ℕ). readTerms (w - 1) r x (sourceSize b)) z ∙ q .second)
 
-  -- room for both
-  pub pair-room : PairAsked left a b right w → (sourceSize a + sourceSize b) * w ≤ length right
-  pair-room q = q .second .asked .room
-
 -- ---- the sum
 
 -- no terms, and then the operands': the sum of both
@@ -172,6 +168,10 @@ module _ {w : ℕ} {left right : List ℕ} {a b : Source} {i k : ℕ} (e : i ≡
   -- the first operand's bytes are within the buffer
   pub first-row : i * w ≤ length right
   first-row = omega (arith, pair-rows)
+
+  -- so they are in the buffer that holds both operands
+  pub first-inside : {r₁ : List ℕ} → Paired w left a b right r₁ → i * w ≤ length r₁
+  first-inside p = omega (arith, first-row, p .size)
 
   module _ (r₁ : List ℕ) {top : ℕ} (l : LayAsked left top (sourceSize a + sourceSize b) w) where
     -- the sum has the room that it asks

@@ -162,20 +162,24 @@ blank : (j : ℕ) → getD {A = ℕ} (replicate mostTermBytes 0) j 0 ≡ 0
 blank j = zeros-at mostTermBytes j
 
 module _ (w : ℕ) (b b′ : List ℕ) (at : ℕ) where
+  -- the written row is one term
+  lay-row-law : (row : List ℕ) (p : Poly) → LayAsked b at 1 w → w ≤ length row
+      → readTerms (w - 1) (take w row) 0 1 ≡ p → Written b b′ (at * w) (take (w - 0) row) → Laid w b b′ at 1 p
+  lay-row-law row p a f r k =
+      let e : w - 0 ≡ w = omega arith in
+      laid-written w b b′ at 1 (take w row) p (a .some) (a .room) (length-take-le w row f ∙ sym (one-mul w)) r
+      (subst (λ (x : ℕ). Written b b′ (at * w) (take x row)) e k)
+
   -- the written row is the variable
-  pub lay-variable-law : (i : ℕ) → i + 1 < w → LayAsked b at 1 w
+  pub lay-variable-law : (i : ℕ) → (i + 1 < w) × LayAsked b at 1 w
       → Written b b′ (at * w) (take (w - 0) (set (set (replicate mostTermBytes 0) 0 1) (i + 1) 1))
       → Laid w b b′ at 1 (variable (w - 1) i)
-  lay-variable-law i h a k =
-      let e : w - 0 ≡ w = omega arith in
+  lay-variable-law i (h, a) k =
       let z = replicate {A = ℕ} mostTermBytes 0 in
       let f : w ≤ length z = omega (arith, a .most, length-replicate {A = ℕ} mostTermBytes 0) in
-      let l : length (take w (set (set z 0 1) (i + 1) 1)) ≡ 1 * w =
-      length-take-le w (set (set z 0 1) (i + 1) 1) (omega (arith, length-set z 0 1, length-set (set z 0 1) (i + 1) 1))
-      ∙ sym (one-mul w) in
-      laid-written w b b′ at 1 (take w (set (set z 0 1) (i + 1) 1)) (variable (w - 1) i) (a .some) (a .room) l
-      (variable-read w z (a .some) f blank i (omega arith))
-      (subst (λ (x : ℕ). Written b b′ (at * w) (take x (set (set z 0 1) (i + 1) 1))) e k)
+      lay-row-law (set (set z 0 1) (i + 1) 1) (variable (w - 1) i) a
+      (omega (arith, length-set z 0 1, length-set (set z 0 1) (i + 1) 1))
+      (variable-read w z (a .some) f blank i (omega arith)) k
 
   -- the written row is the constant
   pub lay-constant-law : (c : ℕ) → (c ≡ 0 → ⊥) → LayAsked b at (oneIf c) w
@@ -183,14 +187,10 @@ module _ (w : ℕ) (b b′ : List ℕ) (at : ℕ) where
       → Laid w b b′ at (oneIf c) (constant (w - 1) c)
   lay-constant-law zero n a k = absurd (n refl)
   lay-constant-law (suc c) n a k =
-      let e : w - 0 ≡ w = omega arith in
       let z = replicate {A = ℕ} mostTermBytes 0 in
       let f : w ≤ length z = omega (arith, a .most, length-replicate {A = ℕ} mostTermBytes 0) in
-      let l : length (take w (set z 0 (suc c))) ≡ 1 * w = length-take-le w (set z 0 (suc c))
-      (omega (arith, length-set z 0 (suc c))) ∙ sym (one-mul w) in
-      laid-written w b b′ at 1 (take w (set z 0 (suc c))) (constant (w - 1) (suc c)) (a .some) (a .room) l
-      (constant-read w z (a .some) f blank (suc c))
-      (subst (λ (x : ℕ). Written b b′ (at * w) (take x (set z 0 (suc c)))) e k)
+      lay-row-law (set z 0 (suc c)) (constant (w - 1) (suc c)) a (omega (arith, length-set z 0 (suc c)))
+      (constant-read w z (a .some) f blank (suc c)) k
 
   -- a constant that is zero has no term
   pub lay-nothing-law : (c : ℕ) → c ≡ 0 → Laid w b b at (oneIf c) (constant (w - 1) c)
@@ -198,10 +198,10 @@ module _ (w : ℕ) (b b′ : List ℕ) (at : ℕ) where
   lay-nothing-law (suc c) e = absurd (omega arith)
 
   -- the copied bytes are the terms that stood there
-  pub lay-stored-law : (left : List ℕ) (from k : ℕ) → (from + k) * w ≤ length left → LayAsked b at k w
+  pub lay-stored-law : (left : List ℕ) (from k : ℕ) → ((from + k) * w ≤ length left) × LayAsked b at k w
       → Written b b′ (at * w) (take (from * w + k * w - from * w) (drop (from * w) left))
       → Laid w b b′ at k (termsAt w left from k)
-  lay-stored-law left from k h a g =
+  lay-stored-law left from k (h, a) g =
       let e : from * w + k * w - from * w ≡ k * w = omega arith in
       let u : from * w + k * w ≤ length left = omega (arith, add-mul from k w) in
       let l : length (take (k * w) (drop (from * w) left))

@@ -1,18 +1,21 @@
 -- Each arm of `load`: what it asks of the function that it calls, and what it leaves.
 -- Assumes nothing.
 use mathlib.Core.Path.{_≡_, sym, subst}
-use Prim.Native.Nat.{ℕ, _+_, _*_, _-_, _≤_, _<_}
+use Prim.Native.Nat.{ℕ, _+_, _*_, _≤_, _<_}
 use native.Mathlib.Omega.{arith}
 use native.Mathlib.Nat.{mul-le-mul-right}
 use mathlib.Core.List.{List}
 use lib.ListN.{length}
-use Rattle.poly.specs.Poly.{constant, units}
 use Rattle.poly.specs.Size.{oneIf}
 use Rattle.values.specs.declared.source.Source.{Source}
 use Rattle.values.specs.declared.source.Source.the-variants.{Constant, Variables, Stored}
-use Rattle.values.specs.Shelf.{termsAt, Laid}
+use Rattle.values.specs.Shelf.{Laid}
 use Rattle.values.specs.Source.{sourceOf, sourceSize, Fits}
 use Rattle.values.specs.Load.{LayAsked, LoadAsked}
+
+-- what is laid is what is found at x
+abbrev Loaded : ℕ → List ℕ → List ℕ → List ℕ → ℕ → Source → Type 0
+Loaded w left right right′ at x = Laid w right right′ at (sourceSize x) (sourceOf w left x)
 
 module _ {left : List ℕ} {s : Source} {right : List ℕ} {at w : ℕ} (a : LoadAsked left s right at w) where
   -- a constant has the room that it asks
@@ -36,25 +39,7 @@ module _ {left : List ℕ} {s : Source} {right : List ℕ} {at w : ℕ} (a : Loa
             (a .asked),
       )
 
--- what is laid is what is found at x
-abbrev Loaded : ℕ → List ℕ → List ℕ → List ℕ → ℕ → Source → Type 0
-Loaded w left right right′ at x = Laid w right right′ at (sourceSize x) (sourceOf w left x)
-
-module _ (left : List ℕ) {s : Source} {right right′ : List ℕ} {at w : ℕ} where
-  -- a constant
-  pub constant-loaded : {c : ℕ} → s ≡ Constant c → Laid w right right′ at (oneIf c) (constant (w - 1) c)
+  -- the arm that is taken lays what is found there
+  pub loaded-at : {x : Source} {right′ : List ℕ} → s ≡ x → Loaded w left right right′ at x
       → Loaded w left right right′ at s
-  unfolding sourceSize sourceOf
-  constant-loaded e h = subst (Loaded w left right right′ at) (sym e) h
-
-  -- variables
-  pub variables-loaded : {i k : ℕ} → s ≡ Variables i k → Laid w right right′ at k (units (w - 1) i k)
-      → Loaded w left right right′ at s
-  unfolding sourceSize sourceOf
-  variables-loaded e h = subst (Loaded w left right right′ at) (sym e) h
-
-  -- a value in the buffer
-  pub stored-loaded : {from k : ℕ} → s ≡ Stored from k → Laid w right right′ at k (termsAt w left from k)
-      → Loaded w left right right′ at s
-  unfolding sourceSize sourceOf
-  stored-loaded e h = subst (Loaded w left right right′ at) (sym e) h
+  loaded-at {right′ = right′} e h = subst (Loaded w left right right′ at) (sym e) h

@@ -15,7 +15,8 @@ use Rattle.poly.specs.First.{sum}
 use Rattle.buffer.proofs.Lent.Reads.{read-same}
 use Rattle.values.specs.declared.shelf.Shelf.{Shelf}
 use Rattle.values.specs.Shelf.{termsAt, valueOf, stored, bare, shelved, Sound, Laid}
-use Rattle.values.proofs.Laws.Tables.{tabulate-more, tabulate-same}
+use Rattle.verdict.proofs.Laws.Begins.{tabulate-same}
+use Rattle.values.proofs.Laws.Tables.{tabulate-more}
 
 -- ---- the directory
 

@@ -1,6 +1,6 @@
 -- The raw size of each statement from the sizes of its operands.
 -- Assumes nothing.
-use mathlib.Core.Path.{_≡_, refl, sym, ap, ap₂, _∙_, subst}
+use mathlib.Core.Path.{_≡_, refl, sym, ap, _∙_, subst}
 use Prim.Native.Nat.{ℕ, zero, suc, _+_, _*_, _-_, _≤_, _<_}
 use native.Mathlib.Omega.{arith}
 use native.Mathlib.Nat.{mul-le-mul-right, mul-le-mul-left}
@@ -9,17 +9,17 @@ use lib.ListN.{length, getD, drop}
 use lib.Seq.{drop-cons, drop-length}
 use Rattle.poly.specs.Poly.{Poly}
 use Rattle.poly.specs.Size.{oneIf, nonzeros}
-use Rattle.text.specs.declared.types.Operand.{Operand}
-use Rattle.text.specs.declared.types.Op.{Op}
-use Rattle.text.specs.declared.types.Op.the-variants.{Set, Xor, Mul, App, Rand}
-use Rattle.text.specs.Read.{Routine}
+use Rattle.rules.specs.declared.types.Operand.{Operand}
+use Rattle.rules.specs.declared.types.Op.{Op}
+use Rattle.rules.specs.declared.types.Op.the-variants.{Set, Xor, Mul, App, Rand}
+use Rattle.rules.specs.Read.{Routine}
 use Rattle.verdict.specs.Instances.{polynomialsOf, modulusOf, powersOf}
 use Rattle.verdict.specs.Count.{rawSize}
 use Rattle.values.specs.declared.shelf.Shelf.{Shelf}
 use Rattle.values.specs.declared.source.Source.{Source}
 use Rattle.values.specs.declared.source.Source.the-variants.{Constant, Variables, Stored}
 use Rattle.values.specs.declared.source.Scope.{Scope}
-use Rattle.values.specs.Source.{sourceSize, Fits, Located}
+use Rattle.values.specs.Source.{sourceSize, Fits, Narrow, Located}
 use Rattle.values.specs.declared.found.Found.{Found}
 use Rattle.values.specs.declared.found.Found.the-variants.{Sum, Product, Image}
 use Rattle.values.specs.Raw.{mostStanding, rawIn, SizeAsked, OperandSized}
@@ -29,9 +29,21 @@ use Rattle.values.proofs.Laws.Sources.{source-length}
 
 -- ---- coefficients that are not zero, counted from the back
 
+-- of the eight, those from j on are counted
+pub record Counted (l : List ℕ) (k j : ℕ) : Type 0 where
+  pub eight : length l ≡ 8
+  pub within : j ≤ 8
+  pub most : k ≤ 8 - j
+  pub count : k ≡ nonzeros (drop j l)
+
 -- behind the last there is none
-pub nonzeros-end : (l : List ℕ) (n : ℕ) → length l ≡ n → 0 ≡ nonzeros (drop n l)
-nonzeros-end l n h = ap nonzeros (sym (ap (λ (x : ℕ). drop x l) (sym h) ∙ drop-length l))
+pub counted-none : (l : List ℕ) → length l ≡ 8 → Counted l 0 8
+counted-none l h = record {
+  eight = h;
+  within = omega arith;
+  most = omega arith;
+  count = ap nonzeros (sym (ap (λ (x : ℕ). drop x l) (sym h) ∙ drop-length l));
+}
 
 nonzeros-back : (l : List ℕ) (j : ℕ) → 0 < j → j ≤ length l
     → nonzeros (drop (j - 1) l) ≡ oneIf (getD l (j - 1) 0) + nonzeros (drop j l)
@@ -44,17 +56,32 @@ one-if : (c : ℕ) → (c ≡ 0 → ⊥) → oneIf c ≡ 1
 one-if zero h = absurd (h refl)
 one-if (suc c) h = refl
 
+-- one coefficient more, which adds n
+counted-back : {l : List ℕ} {k j : ℕ} (n : ℕ) → 0 < j → oneIf (getD l (j - 1) 0) ≡ n → n ≤ 1 → Counted l k j
+    → Counted l (k + n) (j - 1)
+counted-back {l} {k} {j} n p e h c = record {
+  eight = c .eight;
+  within = omega (arith, c .within);
+  most = omega (arith, c .most, c .within);
+  count = omega (arith, e, c .count, nonzeros-back l j p (omega (arith, c .eight, c .within)));
+}
+
 -- one that is not zero counts
-pub nonzeros-more : (l : List ℕ) (j k : ℕ) → 0 < j → j ≤ length l → (getD l (j - 1) 0 ≡ 0 → ⊥) → k ≡ nonzeros (drop j l)
-    → k + 1 ≡ nonzeros (drop (j - 1) l)
-nonzeros-more l j k p h n e = sym (nonzeros-back l j p h
-    ∙ ap₂ (λ (x y : ℕ). x + y) (one-if (getD l (j - 1) 0) n) (sym e) ∙ (let z : 1 + k ≡ k + 1 = omega arith in z))
+pub counted-more : {l : List ℕ} {k j : ℕ} → 0 < j → (getD l (j - 1) 0 ≡ 0 → ⊥) → Counted l k j
+    → Counted l (k + 1) (j - 1)
+counted-more {l} {j = j} p n c = counted-back 1 p (one-if (getD l (j - 1) 0) n) (omega arith) c
 
 -- one that is zero does not
-pub nonzeros-same : (l : List ℕ) (j k : ℕ) → 0 < j → j ≤ length l → getD l (j - 1) 0 ≡ 0 → k ≡ nonzeros (drop j l)
-    → k ≡ nonzeros (drop (j - 1) l)
-nonzeros-same l j k p h n e = sym (nonzeros-back l j p h ∙ ap₂ (λ (x y : ℕ). oneIf x + y) n (sym e)
-    ∙ (let z : 0 + k ≡ k = omega arith in z))
+pub counted-same : {l : List ℕ} {k j : ℕ} → 0 < j → getD l (j - 1) 0 ≡ 0 → Counted l k j → Counted l k (j - 1)
+counted-same {l} {k} {j} p n c =
+    let z : k + 0 ≡ k = omega arith in
+    subst (λ (x : ℕ). Counted l x (j - 1)) z (counted-back 0 p (ap oneIf n) (omega arith) c)
+
+-- all are counted
+pub counted-all : {l : List ℕ} {k j : ℕ} → (0 < j → ⊥) → Counted l k j → (k ≡ nonzeros l) × (k ≤ 8)
+counted-all {l} {j = j} p c =
+    let e : j ≡ 0 = omega arith in
+    (c .count ∙ ap (λ (x : ℕ). nonzeros (drop x l)) e, omega (arith, c .most))
 
 -- ---- an application
 
@@ -77,7 +104,8 @@ times-small p q h k = omega (arith, mul-le-mul-right q h, mul-le-mul-left mostSt
 
 -- ---- an operand
 
-one-most : (c : ℕ) → oneIf c ≤ 1
+-- a constant has at most one term
+pub one-most : (c : ℕ) → oneIf c ≤ 1
 one-most zero = omega arith
 one-most (suc c) = omega arith
 
@@ -88,16 +116,18 @@ fits-most w top (Constant c) h k f = omega (arith, one-most c)
 fits-most w top (Variables i j) h k f = omega arith
 fits-most w top (Stored at j) h k f = omega arith
 
+-- an operand has few terms where few stand
+pub located-small : {s : Scope} {d : Shelf} {a : Operand} {r : Source} → Narrow s d → d .top ≤ mostStanding
+    → Located s d a r → sourceSize r ≤ mostStanding
+located-small {d = d} {r = r} n h l =
+    fits-most mostTermBytes (d .top) r (omega arith) h (l .fits mostTermBytes (omega (arith, n .few)))
+
 -- the size of an operand is that of its source
 pub operand-sized : (s : Scope) (d : Shelf) (a : Operand) (r : Source) (k : ℕ) → SizeAsked s d → Located s d a r
     → k ≡ sourceSize r → OperandSized s d a k
 operand-sized s d a r k q l e = record {
   means = λ m w b. e ∙ sym (source-length w b r) ∙ ap length (l .means m w b);
-  most = omega (
-    arith,
-    fits-most 17 (d .top) r (omega arith) (q .most)
-        (l .fits 17 (omega (arith, q .narrow .few))),
-  );
+  most = omega (arith, located-small (q .narrow) (q .most) l);
 }
 
 -- ---- a statement; x is what the code has found
@@ -105,24 +135,18 @@ operand-sized s d a r k q l e = record {
 module _ {x : Found} (Q : RawAsked x) where
   -- a sum has two small operands
   pub sum-small : {r t : Source} → x ≡ Sum r t → (sourceSize r ≤ mostStanding) × (sourceSize t ≤ mostStanding)
-  sum-small {r} {t} e =
-      let P = subst RawAsked e Q in (
-        fits-most (P .w) (P .top) r (P .wide) (P .most) (P .fits .0),
-        fits-most (P .w) (P .top) t (P .wide) (P .most) (P .fits .1),
-      )
+  sum-small e = subst RawAsked e Q
 
   -- so has a product
   pub product-small : {r t : Source} → x ≡ Product r t
       → (sourceSize r * sourceSize t ≤ mostStanding * mostStanding)
   product-small {r} {t} e =
       let P = subst RawAsked e Q in
-      times-small (sourceSize r) (sourceSize t) (fits-most (P .w) (P .top) r (P .wide) (P .most) (P .fits .0))
-      (fits-most (P .w) (P .top) t (P .wide) (P .most) (P .fits .1))
+      times-small (sourceSize r) (sourceSize t) (P .0) (P .1)
 
   -- the map that is applied has a place in the table, and its operand is small
   pub image-place : {f : ℕ} {r : Source} → x ≡ Image f r → (f < 8) × (sourceSize r ≤ mostStanding)
-  image-place {f} {r} e =
-      let P = subst RawAsked e Q in (P .fits .0, fits-most (P .w) (P .top) r (P .wide) (P .most) (P .fits .1))
+  image-place e = subst RawAsked e Q
 
 -- it is the raw size of the rules
 pub raw-size-of : (r : Routine) (vs : List Poly) (o : Op)

@@ -10,7 +10,7 @@ use lib.Seq.{getD-drop, getD-append-add}
 use Rattle.poly.specs.Poly.{Poly, units, constant, variable}
 use Rattle.poly.specs.Size.{oneIf}
 use Rattle.buffer.proofs.Lent.Reads.{read-length}
-use Rattle.text.specs.declared.types.Operand.the-variants.{Place, Byte}
+use Rattle.rules.specs.declared.types.Operand.the-variants.{Place, Byte}
 use Rattle.verdict.specs.Meaning.{operand, valueAt}
 use Rattle.verdict.specs.Instances.{polynomials}
 use Rattle.values.specs.declared.shelf.Shelf.{Shelf}

@@ -1,6 +1,6 @@
--- The values of a function in a row: how many, at a place, one more, and unchanged where the function is.
+-- The values of a function in a row: how many, at a place, and one more.
 -- Assumes nothing.
-use mathlib.Core.Path.{_≡_, refl, ap, ap₂, _∙_}
+use mathlib.Core.Path.{_≡_, refl, ap, _∙_}
 use Prim.Native.Nat.{ℕ, zero, suc, _+_, _≤_, _<_}
 use native.Mathlib.Omega.{arith}
 use native.Mathlib.Numerals.{add-one}
@@ -32,10 +32,3 @@ module _ {X : Type 0} where
   -- one value more
   pub tabulate-more : (n : ℕ) (f : ℕ → X) → tabulate (n + 1) f ≡ tabulate n f ++ f n ∷ []
   tabulate-more n f = ap (λ (k : ℕ). tabulate k f) (add-one n) ∙ more n f
-
-  -- two functions that agree have the same values
-  pub tabulate-same : (n : ℕ) (f g : ℕ → X) → ((i : ℕ) → i < n → f i ≡ g i) → tabulate n f ≡ tabulate n g
-  tabulate-same zero f g h = refl
-  tabulate-same (suc n) f g h =
-      ap₂ {C = List X} _∷_ (h 0 (omega arith)) (tabulate-same n (λ i. f (suc i)) (λ i. g (suc i))
-      (λ i l. h (suc i) (omega arith)))

@@ -1,7 +1,7 @@
--- Each statement: the room that its operands ask for.
+-- Each statement: the room that its operands ask for, and its value.
 -- Assumes nothing.
 use mathlib.Core.Path.{_≡_, sym, subst}
-use Prim.Native.Nat.{ℕ, zero, suc, _+_, _*_, _-_, _≤_, _<_}
+use Prim.Native.Nat.{ℕ, zero, suc, _+_, _*_, _≤_, _<_}
 use native.Mathlib.Omega.{arith}
 use native.Mathlib.Nat.{mul-le-mul-right, suc-mul, mul-suc, zero-mul}
 use mathlib.Core.List.{List, []}
@@ -19,12 +19,9 @@ use Rattle.values.specs.Load.{mostTermBytes, LayAsked, LoadAsked}
 use Rattle.values.specs.Form.{PairAsked}
 use Rattle.values.specs.Found.{foundValue, foundSize}
 use Rattle.values.specs.Value.{FormAsked}
+use Rattle.values.proofs.Laws.Sizes.{one-most}
 
 -- ---- room
-
-one-most : (c : ℕ) → oneIf c ≤ 1
-one-most zero = omega arith
-one-most (suc c) = omega arith
 
 -- an operand is small, or it stands among the values
 data Held (top k : ℕ) : Type 0 where
@@ -100,7 +97,7 @@ module _ {m : ℕ} {lists : List (List ℕ)} {constants : List ℕ} {left : List
           → PairAsked left r t right w
       pair r t f g h = record { first = alone r f; second = loading t (sourceSize r) g h }
 
-    -- ---- what each arm asks; x is what the code has found
+    -- ---- what each arm asks and leaves; x is what the code has found
 
     module _ {x : Found} (A : FormAsked m lists constants x left top right w) where
       at : {o : Found} → x ≡ o → FormAsked m lists constants o left top right w
@@ -153,11 +150,9 @@ module _ {m : ℕ} {lists : List (List ℕ)} {constants : List ℕ} {left : List
             laying Q (oneIf (getD constants f 0) + nonzeros (getD lists f []) * sourceSize r) (omega arith),
           )
 
--- ---- what each arm leaves
-
--- the arm that is taken
-pub formed-at : (m : ℕ) (lists : List (List ℕ)) (constants left left′ : List ℕ) (top w k : ℕ) {x o : Found} → x ≡ o
-    → Laid w left left′ top k (foundValue m w lists constants left o)
-    → Laid w left left′ top k (foundValue m w lists constants left x)
-formed-at m lists constants left left′ top w k e h =
-    subst (λ (y : Found). Laid w left left′ top k (foundValue m w lists constants left y)) (sym e) h
+      -- the arm that is taken leaves the value of what was found
+      pub formed-at : {o : Found} {left′ : List ℕ} {k : ℕ} → x ≡ o
+          → Laid w left left′ top k (foundValue m w lists constants left o)
+          → Laid w left left′ top k (foundValue m w lists constants left x)
+      formed-at {left′ = left′} {k} e h =
+          subst (λ (y : Found). Laid w left left′ top k (foundValue m w lists constants left y)) (sym e) h

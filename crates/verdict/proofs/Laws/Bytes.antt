@@ -14,7 +14,7 @@ use Rattle.field.proofs.Laws.Pairing.{coefficients-represent}
 use Rattle.poly.specs.Canon.{ByteList}
 use Rattle.verdict.specs.Instances.{bytes}
 use Rattle.verdict.specs.Equivalent.{Encodings}
-use Rattle.text.specs.Formed.{Each, IsByte}
+use Rattle.rules.specs.Formed.{Each, IsByte}
 use Rattle.verdict.proofs.Laws.Lists.{Square}
 use Rattle.verdict.proofs.Laws.Closed.{Closed}
 use Rattle.verdict.proofs.Laws.Value.{columns-bytes}

@@ -3,17 +3,17 @@
 use Prim.Native.Nat.{ℕ, _<_}
 use native.Mathlib.Omega.{arith}
 use mathlib.Core.List.{List, [], _∷_, _++_, map}
-use Rattle.text.specs.declared.types.Operand.{Operand}
-use Rattle.text.specs.declared.types.Operand.the-variants.{Place, Byte}
-use Rattle.text.specs.declared.types.Op.{Op}
-use Rattle.text.specs.declared.types.Op.the-variants.{Set, Xor, Mul, App, Rand}
-use Rattle.text.specs.declared.types.Statement.{Statement}
-use Rattle.text.specs.declared.types.AffineMap.{AffineMap}
-use Rattle.text.specs.Read.{Routine}
+use Rattle.rules.specs.declared.types.Operand.{Operand}
+use Rattle.rules.specs.declared.types.Operand.the-variants.{Place, Byte}
+use Rattle.rules.specs.declared.types.Op.{Op}
+use Rattle.rules.specs.declared.types.Op.the-variants.{Set, Xor, Mul, App, Rand}
+use Rattle.rules.specs.declared.types.Statement.{Statement}
+use Rattle.rules.specs.declared.types.AffineMap.{AffineMap}
+use Rattle.rules.specs.Read.{Routine}
 use Rattle.verdict.specs.Lists.{lots, behind, poured}
 use Rattle.verdict.specs.Meaning.{Algebra, mapAt, valueAt, operand, given, values, joined, originValues}
 use Rattle.verdict.specs.Meaning.{maskedValues, resultIn, outputsIn, trace, joinedIn, differenceIn}
-use Rattle.text.specs.Formed.{Each, FormedOperand, FormedOp, FormedStatement, FormedMap, Formed}
+use Rattle.rules.specs.Formed.{Each, FormedOperand, FormedOp, FormedStatement, FormedMap, Formed}
 use Rattle.verdict.proofs.Laws.Lists.{each-at, each-append, each-lots, each-behind, each-poured, each-map}
 use Rattle.verdict.proofs.Laws.Meaning.{formed-mapAt}
 

@@ -10,7 +10,7 @@ use lib.Dec.{ltb}
 use lib.ListN.{length}
 use borrow.Author.Tests.{ltb-true, ltb-false}
 use native.Mathlib.Decide.{decLe}
-use Rattle.text.specs.Read.{Routine}
+use Rattle.rules.specs.Read.{Routine}
 use Rattle.verdict.specs.Count.{Step, stepAt, standing, firstOver, Over, First}
 
 none-some : {a : ℕ} → none ≡ some a → ⊥

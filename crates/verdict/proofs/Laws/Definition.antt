@@ -6,14 +6,14 @@ use native.Mathlib.Omega.{arith}
 use mathlib.Core.List.{List, _++_, map}
 use lib.ListN.{length, length-append, length-map}
 use Rattle.poly.specs.Canon.{ByteList}
-use Rattle.text.specs.Read.{Routine}
+use Rattle.rules.specs.Read.{Routine}
 use Rattle.verdict.specs.Lists.{lots, behind, poured}
 use Rattle.verdict.specs.Meaning.{joined, trace, joinedIn}
 use Rattle.verdict.specs.Instances.{bytesOf}
 use Rattle.verdict.specs.Equivalent.{original, masked, randoms, Equivalent}
 use Rattle.verdict.specs.Run.{runValues, resultAt, joinedAt}
 use Rattle.verdict.specs.Verdict.{Agrees}
-use Rattle.text.specs.Formed.{Each, IsByte, Formed}
+use Rattle.rules.specs.Formed.{Each, IsByte, Formed}
 use Rattle.verdict.proofs.Laws.Lists.{Square, lots-poured, behind-poured, each-append, each-poured, each-lots}
 use Rattle.verdict.proofs.Laws.Lists.{each-behind, each-map}
 use Rattle.verdict.proofs.Laws.Lists.{length-poured, square-lots, length-lots, length-behind}

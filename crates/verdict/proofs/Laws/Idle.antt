@@ -16,8 +16,8 @@ use Rattle.poly.specs.Canon.{ByteList}
 use Rattle.poly.specs.Occurs.{occurs}
 use Rattle.poly.proofs.Laws.Put.{set-bytes}
 use Rattle.poly.proofs.Laws.Occurs.{some-none, none-some, eval-same, same-without}
-use Rattle.text.specs.Read.{Routine}
-use Rattle.text.specs.Formed.{Formed}
+use Rattle.rules.specs.Read.{Routine}
+use Rattle.rules.specs.Formed.{Formed}
 use Rattle.verdict.specs.Instances.{modulusOf, powersOf, reducedResult}
 use Rattle.verdict.specs.Idle.{ShareOf, Indifferent, Tally, none, counted, passed, IdleInputs, matters}
 use Rattle.verdict.specs.Idle.{failing, idle}

@@ -7,7 +7,7 @@ use mathlib.Core.List.{List, [], _∷_, _++_, map, append-assoc}
 use lib.ListN.{take, drop, length, getD, replicate, take-append-drop, length-append, length-take, length-drop}
 use lib.Seq.{take-at, drop-at}
 use Rattle.verdict.specs.Lists.{tabulate, lots, behind, poured}
-use Rattle.text.specs.Formed.{Each}
+use Rattle.rules.specs.Formed.{Each}
 
 -- ---- a function applied to each element
 

@@ -10,7 +10,7 @@ use borrow.Author.Tests.{eq-eqb, ne-eqb}
 use lib.Seq.{take-add}
 use Rattle.text.specs.declared.routine.Routine as code
 use Rattle.text.specs.declared.read.Reading as reading
-use Rattle.text.specs.Read.{Routine}
+use Rattle.rules.specs.Read.{Routine}
 use Rattle.text.specs.Reading.{readingOf}
 use Rattle.text.specs.Routine.{routineOf, originOf, maskedOf, outputsOf}
 use Rattle.verdict.specs.Lists.{lots, poured}

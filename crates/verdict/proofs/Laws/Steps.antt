@@ -12,11 +12,11 @@ use Rattle.field.specs.Maps.{coefficientsOf}
 use Rattle.field.proofs.Laws.Field.{gf-laws}
 use Rattle.poly.specs.Poly.{Poly}
 use Rattle.poly.proofs.Laws.Size.{add-size, mul-size, map-size}
-use Rattle.text.specs.declared.types.Op.{Op}
-use Rattle.text.specs.declared.types.Op.the-variants.{Set, Xor, Mul, App, Rand}
-use Rattle.text.specs.declared.types.Statement.{Statement}
-use Rattle.text.specs.declared.types.AffineMap.{AffineMap}
-use Rattle.text.specs.Read.{Routine}
+use Rattle.rules.specs.declared.types.Op.{Op}
+use Rattle.rules.specs.declared.types.Op.the-variants.{Set, Xor, Mul, App, Rand}
+use Rattle.rules.specs.declared.types.Statement.{Statement}
+use Rattle.rules.specs.declared.types.AffineMap.{AffineMap}
+use Rattle.rules.specs.Read.{Routine}
 use Rattle.verdict.specs.Meaning.{Algebra, mapAt, valueAt, operand, given, values}
 use Rattle.verdict.specs.Instances.{modulusOf, powersOf, polynomials, polynomialsOf}
 use Rattle.verdict.specs.Count.{Step, applySize, rawSize, blockSteps}

@@ -6,10 +6,10 @@ use native.Mathlib.Omega.{arith}
 use mathlib.Core.List.{List, _++_, map, append-assoc}
 use lib.ListN.{length, take, drop, getD, set, length-map, List·getD-map}
 use lib.Seq.{length-take-le}
-use Rattle.text.specs.declared.types.Operand.the-variants.{Place}
-use Rattle.text.specs.declared.types.Op.the-variants.{Set}
-use Rattle.text.specs.declared.types.Statement.{Statement}
-use Rattle.text.specs.declared.types.AffineMap.{AffineMap}
+use Rattle.rules.specs.declared.types.Operand.the-variants.{Place}
+use Rattle.rules.specs.declared.types.Op.the-variants.{Set}
+use Rattle.rules.specs.declared.types.Statement.{Statement}
+use Rattle.rules.specs.declared.types.AffineMap.{AffineMap}
 use Rattle.verdict.specs.Lists.{lots}
 use Rattle.verdict.specs.Meaning.{Algebra, given, values, joined}
 use Rattle.verdict.proofs.Laws.Parts.{take-store, part-first, part-none, getD-front, back-none, back-more}

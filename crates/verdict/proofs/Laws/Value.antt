@@ -21,14 +21,14 @@ use Rattle.poly.specs.Canon.{ByteList, Spare, Powers, Canon}
 use Rattle.poly.proofs.Laws.Value.{eval-byte, eval-constant, eval-variable, eval-add, eval-mul, eval-map}
 use Rattle.poly.proofs.Laws.Reduced.{addPows-spare, zeros-spare, unit-spare, add-powers, mul-powers, map-powers}
 use Rattle.poly.proofs.Laws.Reduced.{canon-constant, canon-variable, canon-add, canon-mul, canon-map}
-use Rattle.text.specs.declared.types.AffineMap.{AffineMap}
-use Rattle.text.specs.Read.{Routine}
+use Rattle.rules.specs.declared.types.AffineMap.{AffineMap}
+use Rattle.rules.specs.Read.{Routine}
 use Rattle.verdict.specs.Lists.{tabulate}
 use Rattle.verdict.specs.Meaning.{trace, resultIn, joinedIn}
 use Rattle.verdict.specs.Instances.{modulusOf, bytes, polynomials, powersOf, bytesOf, polynomialsOf, symbolic}
 use Rattle.verdict.specs.Instances.{reducedResult, difference}
 use Rattle.verdict.specs.Run.{runValues, resultAt, joinedAt}
-use Rattle.text.specs.Formed.{Each, IsByte, FormedMap, Formed}
+use Rattle.rules.specs.Formed.{Each, IsByte, FormedMap, Formed}
 use Rattle.verdict.proofs.Laws.Lists.{map-tabulate, each-at, each-tabulate}
 use Rattle.verdict.proofs.Laws.Meaning.{Homomorphism, result-hom, difference-hom}
 use Rattle.verdict.proofs.Laws.Closed.{Closed, result-closed, difference-closed}
@@ -155,14 +155,15 @@ module _ (r : Routine) (F : Formed r) where
       ∙ ap (λ (ys : List ℕ). resultIn (bytesOf r) r (trace (bytesOf r) r ys .origin))
       (variables-value (modulus-of r) (powersOf r) (r .variables) (room-for F) xs h)
 
-  -- the operations on a routine's polynomials keep them reduced, and its variables are
-  routine-closed : Closed (polynomialsOf r) (Reduced (r .variables) (powersOf r - r .variables) (powersOf r))
+  -- the operations on a routine's polynomials keep them reduced
+  pub routine-closed : Closed (polynomialsOf r) (Reduced (r .variables) (powersOf r - r .variables) (powersOf r))
   unfolding polynomialsOf
   routine-closed =
       let room : r .variables ≤ powersOf r = room-for F in
       reduced-closed (modulus-of r) (r .variables) (powersOf r - r .variables) (powersOf r) (omega arith)
 
-  variables-reduced : Each (Reduced (r .variables) (powersOf r - r .variables) (powersOf r))
+  -- its variables are reduced
+  pub variables-reduced : Each (Reduced (r .variables) (powersOf r - r .variables) (powersOf r))
       (tabulate (r .variables) (variable (powersOf r)))
   variables-reduced =
       let v = r .variables in

@@ -1,4 +1,4 @@
--- `survey::difference::outputs_size` meets its contract. The invariant: the first i places are counted. Assumes nothing.
+-- `outputs_size` meets its contract. Invariant: the first i places are counted. Assumes nothing.
 use mathlib.Core.Path.{subst, _≡_}
 use borrow.Author.Needs.{needs}
 use native.Mathlib.Omega.{arith}

@@ -1,13 +1,12 @@
--- `survey::survey::survey` meets its contract. Given up in the origin block, or as the masked block is. Assumes nothing.
+-- `survey` meets its contract. Given up in the origin block, or as the masked one is. Assumes nothing.
 use borrow.Author.Needs.{needs}
-use Rattle.field.specs.Field.Modulus.{aes}
 use Rattle.survey.proofs.Laws.Asking.{block-asked, lent-kept}
 use Rattle.survey.proofs.Laws.Surveys.{surveyed-first, origin-begun, surveyed}
 use Rattle.survey.proofs.survey.survey.Statement.{statement}
 use Rattle.survey.proofs.survey.survey.Tie as tie
 
 list-maps-requires : tie.Need-list-maps-requires
-list-maps-requires c κs = (aes, search needs)
+list-maps-requires c κs = search needs
 
 list-constants-requires : tie.Need-list-constants-requires
 list-constants-requires c κs = search needs

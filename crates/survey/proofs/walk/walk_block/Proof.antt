@@ -7,7 +7,6 @@ use Prim.Native.Nat.{_+_, _-_, _≤_, _<_}
 use Rattle.text.specs.Routine.{mapsOf}
 use Rattle.values.specs.Raw.{mostStanding}
 use Rattle.values.specs.Shelf.{shelved}
-use Rattle.survey.specs.Survey.{modulus}
 use Rattle.survey.specs.Walk.{Holds, Walked}
 use Rattle.survey.proofs.Laws.Walks.{holds-start, find-asked, raw-asked, walk-over, form-asked, shelf-room}
 use Rattle.survey.proofs.Laws.Walks.{holds-more, walk-done}
@@ -15,15 +14,15 @@ use Rattle.survey.proofs.walk.walk_block.Statement.{statement}
 use Rattle.survey.proofs.walk.walk_block.Tie as tie
 
 abbrev Inv-loop : tie.InvT-loop
-Inv-loop lists constants from to s left₀ right₀ w r shelf₀ i₀ left right shelf i =
-    Holds modulus (mapsOf r) (r .statements) from to s shelf₀ left₀ w mostStanding i left shelf
+Inv-loop m lists constants from to s left₀ right₀ w most r shelf₀ i₀ left right shelf i =
+    Holds m (mapsOf r) (r .statements) from to s shelf₀ left₀ w most i left shelf
     × (length right ≡ length right₀)
 
 abbrev μ-loop : tie.MeasureT-loop
-μ-loop lists constants from to s left₀ right₀ w r shelf₀ i₀ left right shelf i = to - i
+μ-loop m lists constants from to s left₀ right₀ w most r shelf₀ i₀ left right shelf i = to - i
 
-long : (c : tie.Start Inv-loop μ-loop) → length (c .args .t3 .statements) ≡ 256
-long c = sym (length-map (c .args .t3 .statements) _) ∙ c .good .1 .1 .0 .1 .1 .1 .1 .1 .1 .1 .0 .1 .0 .1
+long : (c : tie.Start Inv-loop μ-loop) → length (c .args .t4 .statements) ≡ 256
+long c = sym (length-map (c .args .t4 .statements) _) ∙ c .good .1 .1 .1 .0 .1 .1 .1 .1 .1 .1 .1 .0 .1 .0 .1
 
 loop-holds : tie.Need-loop-holds Inv-loop μ-loop
 loop-holds c =
@@ -63,8 +62,8 @@ returns c =
     let s = c .before .before .before .before .before .before .before .before .before in
     let a = s .args in
     let loop = c .before .before .before .before .before .before .loop in
-    subst (Walked modulus (mapsOf (a .t3)) (a .t3 .statements) (a .from) (a .to) (a .s) (a .d) (a .left .now) (a .w)
-    mostStanding (loop .left)) (sym (c .ended .ensures))
+    subst (Walked (a .m) (mapsOf (a .t4)) (a .t4 .statements) (a .from) (a .to) (a .s) (a .d) (a .left .now) (a .w)
+    (a .most) (loop .left)) (sym (c .ended .ensures))
     (walk-over (long s) (s .pre) (loop .inv .0) (omega arith) (c .before .before .before .find .ensures)
     (c .before .before .raw-size .ensures) (c .before .if1 .taken))
 
@@ -144,8 +143,8 @@ returns-2 c =
     let s = c .before .before .before .before .before in
     let a = s .args in
     let loop = c .before .before .loop in
-    subst (Walked modulus (mapsOf (a .t3)) (a .t3 .statements) (a .from) (a .to) (a .s) (a .d) (a .left .now) (a .w)
-    mostStanding (loop .left)) (sym (c .ended2 .ensures))
+    subst (Walked (a .m) (mapsOf (a .t4)) (a .t4 .statements) (a .from) (a .to) (a .s) (a .d) (a .left .now) (a .w)
+    (a .most) (loop .left)) (sym (c .ended2 .ensures))
     (walk-done (long s) (s .pre) (loop .i) (loop .left) (loop .shelf) (loop .inv .0) (λ h. absurd (omega arith)))
 
 pub walk-block-spec : {M : Type 1} → statement M

@@ -1,7 +1,7 @@
 -- What was found for the operands decides the faults and the statement. Assumes nothing.
 use Rattle.text.specs.declared.known.Known.{Known}
 use Rattle.text.specs.declared.step.Put.the-variants.{Stated}
-use Rattle.text.specs.Names.{namesIn}
+use Rattle.lookup.specs.Names.{namesIn}
 use Rattle.text.specs.Taken.{stepOf}
 use Rattle.text.proofs.Laws.Taking.{no-faults}
 use Rattle.text.proofs.Laws.Stating.{form-bad, form-fault, form-grown, room}
@@ -29,7 +29,7 @@ make-requires : tie.Need-make-requires
 make-requires c κs = search needs
 
 returns : tie.Need-returns
-returns c =
+returns c = λ codes.
     let b2 = c .before .before in
     let b3 = c .before .before .before in
     let b4 = c .before .before .before .before in
@@ -51,7 +51,7 @@ make-requires-2 : tie.Need-make-requires-2
 make-requires-2 c κs = search needs
 
 returns-2 : tie.Need-returns-2
-returns-2 c =
+returns-2 c = λ codes.
     let b3 = c .before .before .before in
     let b4 = c .before .before .before .before in
     let b5 = c .before .before .before .before .before in
@@ -76,7 +76,7 @@ make-requires-3 : tie.Need-make-requires-3
 make-requires-3 c κs = search needs
 
 returns-3 : tie.Need-returns-3
-returns-3 c =
+returns-3 c = λ codes.
     let d = c .before .before .before .before .before in
     let s = d .args .s .now in
     let t = d .args .t .now in

@@ -23,15 +23,16 @@ make-requires c κs = search needs
 
 returns : tie.Need-returns
 unfolding recordIn
-returns c = λ ps.
+returns c = λ codes ps.
     let d = c .before .before .before .before .before in
     let s = d .args .s .now in
-    subst (λ o. Took s (d .args .t .now) (d .args .k) (d .args .n) (d .args .stands) o (c .take-form .result))
-    (λ i. recordIn s ps (rec.Assign (sym (c .before .before .x .given .1) i) (d .args .f))) (c .take-form .ensures)
+    subst (λ o. Took s (d .args .t .now) codes (d .args .k) (d .args .n) (d .args .stands) o (c .take-form .result))
+    (λ i. recordIn s ps (rec.Assign (sym (c .before .before .x .given .1) i) (d .args .f)))
+    (c .take-form .ensures codes)
 
 returns-2 : tie.Need-returns-2
 unfolding recordIn
-returns-2 c = λ ps.
+returns-2 c = λ codes ps.
     let d = c .before .before .before .before in
     let s = d .args .s .now in
     took-bad s (d .args .t .now) (d .args .k) (d .pre .0) (d .args .n) (d .args .stands)

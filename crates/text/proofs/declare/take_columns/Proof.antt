@@ -6,8 +6,9 @@ use lib.Dec.{ltb}
 use Rattle.grammar.specs.Recorded.{columnsOf, mapIn}
 use Rattle.grammar.specs.Line.{piecesIn, nameIn}
 use Rattle.grammar.specs.Record.{map}
-use Rattle.text.specs.Scope.{repeats, readsUnknown, exceeds, miscounts, added}
-use Rattle.text.specs.Limits.{mostMaps}
+use Rattle.rules.specs.Faults.{repeats, readsUnknown, exceeds, miscounts}
+use Rattle.rules.specs.Added.{added}
+use Rattle.rules.specs.Limits.{mostMaps}
 use Rattle.text.specs.Known.{kept, stateIn}
 use Rattle.text.proofs.Laws.Known.{steady}
 use Rattle.text.proofs.Laws.Kept.{map-means}
@@ -36,7 +37,7 @@ make-requires c κs = search needs
 
 returns : tie.Need-returns
 unfolding repeats readsUnknown exceeds miscounts stateIn nests
-returns c = λ n.
+returns c = λ codes n.
     let d = c .before .before .before .before .before .before .before .before in
     let k = d .args .k in
     let s = d .args .s .now in
@@ -60,7 +61,7 @@ add-next c = search needs
 
 returns-2 : tie.Need-returns-2
 unfolding repeats readsUnknown exceeds miscounts added stateIn nests
-returns-2 c = λ n.
+returns-2 c = λ codes n.
     let b2 = c .before .before in
     let b3 = c .before .before .before in
     let d = c .before .before .before .before .before .before .before .before .before in
@@ -91,7 +92,7 @@ make-requires-2 : tie.Need-make-requires-2
 make-requires-2 c κs = search needs
 
 returns-3 : tie.Need-returns-3
-returns-3 c = λ n.
+returns-3 c = λ codes n.
     let d = c .before .before .before .before in
     let s = d .args .s .now in
     let R = c .before .before .read-columns in

@@ -10,11 +10,13 @@ use Rattle.grammar.specs.Recorded.{recordIn}
 use Rattle.text.specs.declared.known.Known.{Known}
 use Rattle.text.specs.declared.step.Put.the-variants.{Input}
 use Rattle.text.specs.declared.step.Step.{Step}
-use Rattle.text.specs.Scope.{repeats, readsUnknown, exceeds, miscounts, added}
-use Rattle.text.specs.Limits.{mostInputs, mostVariables}
-use Rattle.text.specs.Known.{kept, stateIn, InputFits, inputAdded}
+use Rattle.rules.specs.Faults.{repeats, readsUnknown, exceeds, miscounts}
+use Rattle.rules.specs.Added.{added}
+use Rattle.rules.specs.Limits.{mostInputs, mostVariables}
+use Rattle.text.specs.Known.{kept, stateIn}
+use Rattle.text.specs.Added.{InputFits, inputAdded}
 use Rattle.text.specs.Taken.{stepOf, Took}
-use Rattle.text.proofs.Laws.Reads.{or-false}
+use Rattle.tokens.proofs.Laws.Flags.{or-false}
 use Rattle.text.proofs.Laws.Known.{input-sound}
 use Rattle.text.proofs.Laws.Kept.{input-means}
 use Rattle.text.proofs.Laws.Taking.{no-faults, took-bad, took-fault, took-grown}
@@ -59,7 +61,7 @@ make-requires c κs = search needs
 
 returns : tie.Need-returns
 unfolding recordIn repeats readsUnknown exceeds miscounts stateIn nests
-returns c = λ ps n.
+returns c = λ codes ps n.
     let d = c .before .before .before .before .before .before .before .before .before .before .before in
     let s = d .args .s .now in
     let x = c .before .before .before .before .before .before .before .before .x in
@@ -90,7 +92,7 @@ make-requires-3 c κs = search needs
 
 returns-2 : tie.Need-returns-2
 unfolding recordIn repeats readsUnknown exceeds miscounts added stateIn stepOf nests
-returns-2 c = λ ps n.
+returns-2 c = λ codes ps n.
     let b2 = c .before .before in
     let b3 = c .before .before .before in
     let d = c .before .before .before .before .before .before .before .before .before .before .before .before in
@@ -102,7 +104,7 @@ returns-2 c = λ ps n.
     let fit = room (b2) in
     let e = c .make2 .ensures ∙ ap (λ (j : Known). stepOf 0 j (Input m)) (c .before .with-input .ensures) in
     let o = recordIn s ps (rec.Input (d .args .x)) in
-    subst (λ (r : Step). Took s t k n (d .args .stands) o r) (sym e)
+    subst (λ (r : Step). Took s t codes k n (d .args .stands) o r) (sym e)
     (took-grown s t k (d .pre) n (d .args .stands) (input (nameIn s m))
     (ap (λ (y : NameRead). recordIn s ps (rec.Input y)) (sym (x .given .1)))
     (stepOf 0 (inputAdded k) (Input m)) (sym (b2 .if1 .left) ∙ b3 .first-fault .ensures) refl
@@ -118,7 +120,7 @@ returns-2 c = λ ps n.
 
 returns-3 : tie.Need-returns-3
 unfolding recordIn
-returns-3 c = λ ps n.
+returns-3 c = λ codes ps n.
     let d = c .before .before .before .before in
     let s = d .args .s .now in
     took-bad s (d .args .t .now) (d .args .k) (d .pre) n (d .args .stands)

@@ -32,19 +32,19 @@ make-requires-2 c κs = search needs
 
 returns : tie.Need-returns
 unfolding recordIn
-returns c = λ n.
+returns c = λ codes n.
     let b2 = c .before .before in
     let b5 = c .before .before .before .before .before in
     let d = c .before .before .before .before .before .before .before .before in
     let s = d .args .s .now in
     let ps = piecesIn s (d .args .l) in
-    subst (λ o. Took s (d .args .t .now) (d .args .k) n (d .args .stands) o (c .take-columns .result))
+    subst (λ o. Took s (d .args .t .now) codes (d .args .k) n (d .args .stands) o (c .take-columns .result))
     (λ i. recordIn s ps (rec.Map (sym (b5 .x .given .1) i) (sym (b2 .constant .given .1) i)))
-    (c .take-columns .ensures n)
+    (c .take-columns .ensures codes n)
 
 returns-2 : tie.Need-returns-2
 unfolding recordIn
-returns-2 c = λ n.
+returns-2 c = λ codes n.
     let b4 = c .before .before .before .before in
     let d = c .before .before .before .before .before .before .before in
     let s = d .args .s .now in
@@ -55,7 +55,7 @@ returns-2 c = λ n.
 
 returns-3 : tie.Need-returns-3
 unfolding recordIn
-returns-3 c = λ n.
+returns-3 c = λ codes n.
     let d = c .before .before .before .before in
     let s = d .args .s .now in
     let ps = piecesIn s (d .args .l) in

@@ -4,8 +4,9 @@ use Rattle.grammar.specs.declared.record.Rec.the-variants as rec
 use Rattle.tokens.specs.declared.token.Number.{Number}
 use Rattle.grammar.specs.Record.{shares}
 use Rattle.grammar.specs.Recorded.{recordIn}
-use Rattle.text.specs.Scope.{repeats, readsUnknown, exceeds, miscounts, added}
-use Rattle.text.specs.Grown.{withShares}
+use Rattle.rules.specs.Faults.{repeats, readsUnknown, exceeds, miscounts}
+use Rattle.rules.specs.Added.{added}
+use Rattle.rules.specs.Grown.{withShares}
 use Rattle.text.specs.Known.{stateIn}
 use Rattle.text.proofs.Laws.Known.{steady}
 use Rattle.text.proofs.Laws.Taking.{took-bad, took-set}
@@ -35,7 +36,7 @@ make-requires-2 c κs = search needs
 
 returns : tie.Need-returns
 unfolding recordIn repeats readsUnknown exceeds miscounts added withShares stateIn nests
-returns c = λ s t ps n.
+returns c = λ s t codes ps n.
     let d = c .before .before .before .before .before in
     let k = d .args .k in
     let K = d .pre in
@@ -50,7 +51,7 @@ returns c = λ s t ps n.
 
 returns-2 : tie.Need-returns-2
 unfolding recordIn
-returns-2 c = λ s t ps n.
+returns-2 c = λ s t codes ps n.
     let d = c .before .before .before in
     took-bad s t (d .args .k) (d .pre) n (d .args .stands)
     (ap (λ (x : Number). recordIn s ps (rec.Shares x)) (sym (c .before .enum-told .given .1))) (c .make2 .ensures)

@@ -1,5 +1,5 @@
 -- Every number is 0. Assumes nothing.
-use Rattle.text.specs.Known.{blank}
+use Rattle.text.specs.Added.{blank}
 use mathlib.Core.Path.{refl}
 use Rattle.text.proofs.known.begin.Statement.{statement}
 use Rattle.text.proofs.known.begin.Tie as tie

@@ -1,5 +1,5 @@
 -- Only the stage moves. Assumes nothing.
-use Rattle.text.specs.Known.{atStage}
+use Rattle.text.specs.Added.{atStage}
 use Prim.Native.Nat.{ℕ}
 use mathlib.Core.Path.{ap}
 use borrow.Author.Needs.{needs}

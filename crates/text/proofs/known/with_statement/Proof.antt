@@ -3,8 +3,8 @@ use borrow.Author.Tests.{eq-eqb, ne-eqb}
 use borrow.Author.Needs.{needs}
 use mathlib.Core.Bool.{Bool, cond}
 use mathlib.Core.Path.{ap, sym}
-use Rattle.text.specs.Order.{inMasked}
-use Rattle.text.specs.Known.{maskedAdded, originAdded}
+use Rattle.rules.specs.Order.{inMasked}
+use Rattle.text.specs.Added.{maskedAdded, originAdded}
 use Rattle.text.proofs.known.with_statement.Statement.{statement}
 use Rattle.text.proofs.known.with_statement.Tie as tie
 

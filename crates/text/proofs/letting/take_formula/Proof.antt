@@ -1,6 +1,6 @@
 -- The formula is read, and does not nest too deep. Assumes nothing.
 use mathlib.Core.Option.{Option}
-use mathlib.Core.Path.{ap, subst}
+use mathlib.Core.Path.{refl, ap, subst}
 use borrow.Author.Needs.{needs}
 use Rattle.grammar.specs.Formula.{Formula}
 use Rattle.grammar.specs.Line.{piecesIn, nameIn}
@@ -23,10 +23,12 @@ returns c =
     let d = c .before .before .before .before .before .before in
     let s = d .args .s .now in
     let r = c .before .before .before .before .line-formula in
-    let o = formulaOf (piecesIn s (d .args .l)) in
-    line-deep s (d .args .t .now) (d .args .k) (d .pre .1) (d .args .n) (d .args .stands) (d .args .x) (r .result) o
-    (measured (r .result) o (r .ensures) (c .before .before .before .if1 .taken)) (c .before .if2 .taken)
-    (c .make .ensures)
+    let o = formulaOf (piecesIn s (d .args .l)) in (
+      line-deep s (d .args .t .now) (d .args .k) (d .pre .1) (d .args .n) (d .args .stands) (d .args .x) (r .result) o
+          (measured (r .result) o (r .ensures) (c .before .before .before .if1 .taken)) (c .before .if2 .taken)
+          (c .make .ensures),
+      refl,
+    )
 
 field-requires : tie.Need-field-requires
 field-requires c κs = search needs
@@ -36,29 +38,33 @@ count-of-requires c κs = search needs
 
 take-shallow-requires : tie.Need-take-shallow-requires
 take-shallow-requires c κs =
-    let d = c .before .before .before .before .before .before .before in
+    let d = c .before .before .before .before .before .before .before .before in
     let s = d .args .s .now in
-    let r = c .before .before .before .before .before .line-formula in
+    let r = c .before .before .before .before .before .before .line-formula in
     let o = formulaOf (piecesIn s (d .args .l)) in
-    let M = measured (r .result) o (r .ensures) (c .before .before .before .before .if1 .taken) in (
-      line-shallow s (d .args .l) (r .result) M _ (c .before .field .ensures) (c .count-of .ensures)
-          (c .before .before .if2 .left),
+    let M = measured (r .result) o (r .ensures) (c .before .before .before .before .before .if1 .taken) in (
+      line-shallow s (d .args .l) (r .result) M _ (c .before .before .field .ensures) (c .before .count-of .ensures)
+          (c .before .before .before .if2 .left),
       d .pre .1,
       d .pre .2,
     )
 
 returns-2 : tie.Need-returns-2
 returns-2 c =
-    let d = c .before .before .before .before .before .before .before .before in
+    let d = c .before .before .before .before .before .before .before .before .before in
     let s = d .args .s .now in
-    let r = c .before .before .before .before .before .before .line-formula in
+    let r = c .before .before .before .before .before .before .before .line-formula in
     let o = formulaOf (piecesIn s (d .args .l)) in
-    let M = measured (r .result) o (r .ensures) (c .before .before .before .before .before .if1 .taken) in
-    let f = c .before .before .field .result in
-    let here : Letting = record { at = f .at; len = f .len; count = c .before .count-of .result; line = d .args .n } in
-    subst (λ (q : Option Formula). Took s (d .args .t .now) (d .args .k) (d .args .n) (d .args .stands)
-    (letIn (nameIn s (d .args .x)) q) (c .take-shallow .result))
-    (line-field s (d .args .l) (r .result) M here (c .before .before .field .ensures .holds)) (c .take-shallow .ensures)
+    let M = measured (r .result) o (r .ensures) (c .before .before .before .before .before .before .if1 .taken) in
+    let f = c .before .before .before .field in
+    let n = c .before .before .count-of .result in
+    let here : Letting = record { at = f .result .at; len = f .result .len; count = n; line = d .args .n } in
+    let S = c .take-shallow in (
+      subst (λ (q : Option Formula). Took s (d .args .t .now) (S .last .1 .1 .1 .1 .1 .1 .0) (d .args .k) (d .args .n)
+          (d .args .stands) (letIn (nameIn s (d .args .x)) q) (S .result))
+          (line-field s (d .args .l) (r .result) M here (f .ensures .holds)) (S .ensures .0),
+      S .ensures .1,
+    )
 
 make-requires-2 : tie.Need-make-requires-2
 make-requires-2 c κs = search needs
@@ -68,10 +74,12 @@ returns-3 c =
     let d = c .before .before .before .before in
     let s = d .args .s .now in
     let r = c .before .before .line-formula in
-    let o = formulaOf (piecesIn s (d .args .l)) in
-    took-bad s (d .args .t .now) (d .args .k) (d .pre .1) (d .args .n) (d .args .stands)
-    (ap (letIn (nameIn s (d .args .x))) (unmeasured (r .result) o (r .ensures) (c .before .if1 .left)))
-    (c .make2 .ensures)
+    let o = formulaOf (piecesIn s (d .args .l)) in (
+      took-bad s (d .args .t .now) (d .args .k) (d .pre .1) (d .args .n) (d .args .stands)
+          (ap (letIn (nameIn s (d .args .x))) (unmeasured (r .result) o (r .ensures) (c .before .if1 .left)))
+          (c .make2 .ensures),
+      refl,
+    )
 
 pub take-formula-spec : {M : Type 1} → statement M
 take-formula-spec =

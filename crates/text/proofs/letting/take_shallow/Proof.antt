@@ -4,13 +4,16 @@ use mathlib.Core.Path.{refl, ap, _∙_}
 use borrow.Author.Needs.{needs}
 use Rattle.grammar.specs.Line.{nameIn}
 use Rattle.text.specs.declared.known.Known.{Known}
-use Rattle.text.specs.declared.names.Names.{Names}
+use Rattle.lookup.specs.declared.names.Names.{Names}
 use Rattle.text.specs.declared.step.Put.the-variants.{Let}
-use Rattle.text.specs.Names.{namesIn}
-use Rattle.text.specs.Scope.{given}
+use Rattle.lookup.specs.Names.{namesIn}
+use Rattle.rules.specs.Scope.{given}
+use Rattle.grammar.specs.Formula.{readFormula}
+use Rattle.text.specs.Lets.{fieldOf}
+use Rattle.text.specs.Known.{blockNames, mapNames}
 use Rattle.text.specs.Taken.{stepOf}
 use Rattle.text.proofs.Laws.Taking.{no-faults}
-use Rattle.text.proofs.Laws.LetWriting.{shallow-fits, shallow-count}
+use Rattle.text.proofs.Laws.LetWriting.{shallow-fits, shallow-count, written-size}
 use Rattle.text.proofs.Laws.LetTaking.{let-fault, let-fits, let-grown}
 use Rattle.text.proofs.letting.take_shallow.Statement.{statement}
 use Rattle.text.proofs.letting.take_shallow.Tie as tie
@@ -47,12 +50,15 @@ returns c =
     let s = d .args .s .now in
     let t = d .args .t .now in
     let set = c .before .before .before .before .before .before .block-names in
-    let W = c .before .before .before .before .before .before .before .write-let in
-    let-fault s t (d .args .k) (d .pre .1) (d .args .stands) (d .args .x) (d .args .f) (d .pre .0) (W .result) _ _
-    (W .ensures) (c .before .before .first-fault .ensures)
-    (c .before .before .before .before .before .is-given .ensures
-    ∙ ap (λ (n : Names). given (nameIn s (d .args .x)) (namesIn s t n)) (set .ensures .1)) refl
-    (c .before .if1 .taken) (c .make .ensures)
+    let W = c .before .before .before .before .before .before .before .write-let in (
+      let-fault s t (d .args .k) (d .pre .1) (d .args .stands) (d .args .x) (d .args .f) (d .pre .0) (W .result) _ _
+          (W .ensures) (c .before .before .first-fault .ensures)
+          (c .before .before .before .before .before .is-given .ensures
+          ∙ ap (λ (n : Names). given (nameIn s (d .args .x)) (namesIn s t n)) (set .ensures .1)) refl
+          (c .before .if1 .taken) (c .make .ensures),
+      written-size (namesIn s t (blockNames (d .args .k))) (namesIn s t (mapNames (d .args .k))) (d .args .codes .now) _
+          (W .result) (readFormula (fieldOf s (d .args .f))) (shallow-fits s (d .args .f) (d .pre .0)) (W .ensures),
+    )
 
 with-statements-requires : tie.Need-with-statements-requires
 with-statements-requires c κs =
@@ -79,14 +85,18 @@ returns-2 c =
     let W = c .before .before .before .before .before .before .before .before .write-let in
     let z = c .before .before .if1 .left in
     let e = c .before .before .before .first-fault .ensures in
-    let free = no-faults _ _ _ _ _ e z in
-    let-grown s t (d .args .k) (d .pre .1) (d .args .stands) (d .args .x) (d .args .f) (d .pre .0) (W .result) _ _
-    (W .ensures) e
-    (c .before .before .before .before .before .before .is-given .ensures
-    ∙ ap (λ (n : Names). given (nameIn s (d .args .x)) (namesIn s t n)) (set .ensures .1)) refl z
-    (d .pre .2 (free .0))
-    (c .make2 .ensures
-    ∙ ap (λ (j : Known). stepOf 0 j (Let (d .args .x) (d .args .f))) (c .before .with-statements .ensures))
+    let free = no-faults _ _ _ _ _ e z in (
+      let-grown s t (d .args .k) (d .pre .1) (d .args .stands) (d .args .x) (d .args .f) (d .pre .0) (W .result) _ _
+          (W .ensures) e
+          (c .before .before .before .before .before .before .is-given .ensures
+          ∙ ap (λ (n : Names). given (nameIn s (d .args .x)) (namesIn s t n)) (set .ensures .1)) refl
+          z
+          (d .pre .2 (free .0))
+          (c .make2 .ensures
+          ∙ ap (λ (j : Known). stepOf 0 j (Let (d .args .x) (d .args .f))) (c .before .with-statements .ensures)),
+      written-size (namesIn s t (blockNames (d .args .k))) (namesIn s t (mapNames (d .args .k))) (d .args .codes .now) _
+          (W .result) (readFormula (fieldOf s (d .args .f))) (shallow-fits s (d .args .f) (d .pre .0)) (W .ensures),
+    )
 
 pub take-shallow-spec : {M : Type 1} → statement M
 take-shallow-spec =

@@ -3,7 +3,7 @@ use borrow.Author.Tests.{eq-eqb, ne-eqb}
 use borrow.Author.Needs.{needs}
 use mathlib.Core.Bool.{Bool, cond}
 use mathlib.Core.Path.{ap, sym}
-use Rattle.text.specs.Order.{inMasked}
+use Rattle.rules.specs.Order.{inMasked}
 use Rattle.text.specs.Lets.{maskedLet, originLet}
 use Rattle.text.proofs.letting.with_statements.Statement.{statement}
 use Rattle.text.proofs.letting.with_statements.Tie as tie

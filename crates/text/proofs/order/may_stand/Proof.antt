@@ -2,7 +2,7 @@
 use Prim.Native.Nat.{ℕ}
 use Rattle.text.proofs.order.may_stand.Statement.{statement}
 use Rattle.text.proofs.order.may_stand.Tie as tie
-use Rattle.text.specs.Order.{mayStand}
+use Rattle.rules.specs.Order.{mayStand}
 use Rattle.tokens.specs.declared.word.Word.{Word}
 use borrow.Author.Needs.{needs}
 use mathlib.Core.Path.{_≡_, sym, ap, _∙_}

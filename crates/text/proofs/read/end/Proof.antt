@@ -2,7 +2,7 @@
 use borrow.Author.Tests.{eq-eqb, ne-eqb}
 use Rattle.text.specs.Routine.{routineOf, mapsOf, originOf, maskedOf, outputsOf}
 use Rattle.text.specs.Known.{arrays, kept, stateIn}
-use Rattle.text.specs.Read.{refused, accepted, routine}
+use Rattle.rules.specs.Read.{refused, accepted, routine}
 use Rattle.text.specs.Reading.{readingOf}
 use Prim.Native.Nat.{_+_}
 use native.Mathlib.Omega.{arith}

@@ -47,7 +47,7 @@ use Rattle.reader.proofs.reader.open.Symbol as open-def
 use Rattle.reader.proofs.reader.open.Symbol.{name as #open}
 use Rattle.reader.proofs.reader.open.Met as open-thm
 use Rattle.text.specs.declared.read.Reading.{Reading}
-use Rattle.text.specs.Read.{readText}
+use Rattle.rules.specs.Read.{readText}
 use Rattle.text.specs.Reading.{ReadingIs}
 use Rattle.text.specs.From.{ReadsOn}
 use Rattle.text.proofs.Laws.From.{opened-reads}

@@ -4,8 +4,8 @@ use mathlib.Core.Bool.{Bool, cond}
 use Rattle.tokens.specs.Ascii.{lineFeed}
 use Rattle.tokens.specs.Split.{pieces}
 use Rattle.reader.proofs.Laws.Handed.{placed-in}
-use Rattle.text.specs.State.{start}
-use Rattle.text.specs.Read.{refused, takeLines}
+use Rattle.rules.specs.State.{start}
+use Rattle.rules.specs.Read.{refused, takeLines}
 use Rattle.text.specs.From.{linesFrom, readFrom}
 use native.Mathlib.Omega.{arith}
 use mathlib.Core.Path.{ap, sym, _∙_}

@@ -5,10 +5,10 @@ use Rattle.grammar.specs.Line.{piecesIn}
 use Rattle.tokens.specs.Word.{wordOf}
 use Rattle.text.specs.declared.step.Step.{Step}
 use Rattle.text.specs.Known.{kept, stateIn}
-use Rattle.text.specs.Read.{unless}
+use Rattle.rules.specs.Read.{unless}
 use Rattle.text.specs.Taken.{stepOf, outcomeIn, LineLeads}
 use Rattle.text.proofs.Laws.Leading.{line-bad, line-record}
-use mathlib.Core.Path.{_≡_, ap, sym, _∙_, subst}
+use mathlib.Core.Path.{_≡_, refl, ap, sym, _∙_, subst}
 use lib.ListN.{take, drop}
 use borrow.Author.Needs.{needs}
 use Rattle.text.proofs.read.take_line.Statement.{statement}
@@ -35,24 +35,26 @@ take-record-requires c κs = search needs
 returns : tie.Need-returns
 unfolding piecesIn
 returns c =
-    let b2 = c .before .before in
-    let b3 = c .before .before .before in
-    let b4 = c .before .before .before .before in
-    let b6 = c .before .before .before .before .before .before in
-    let d = c .before .before .before .before .before .before .before .before in
+    let b2 = c .before .before .before in
+    let b3 = c .before .before .before .before in
+    let b4 = c .before .before .before .before .before in
+    let b6 = c .before .before .before .before .before .before .before in
+    let d = c .before .before .before .before .before .before .before .before .before in
     let s = d .args .s .now in
     let l = take (d .args .l .len) (drop (d .args .l .from) s) in
-    let clean : all allowed l ≡ true = sym (c .before .before .before .before .before .all-allowed .ensures
+    let clean : all allowed l ≡ true = sym (c .before .before .before .before .before .before .all-allowed .ensures
     ∙ ap (all allowed) (b6 .part .ensures)) ∙ b4 .if1 .taken in
-    let told = c .before .word-of .ensures ∙ ap wordOf (b2 .part2 .ensures ∙ b3 .field .ensures .holds) in
-    record {
-      outcome = λ a z. c .take-record .ensures .outcome a z
-          ∙ line-record (stateIn s (kept (d .args .t .now) (d .args .k) a)) (d .args .n) l clean
-          (c .before .word-of .result) told;
-      sound = c .take-record .ensures .sound;
-      fits = c .take-record .ensures .fits;
-      lets = c .take-record .ensures .lets;
-    }
+    let told = c .before .before .word-of .ensures ∙ ap wordOf (b2 .part2 .ensures ∙ b3 .field .ensures .holds) in (
+      record {
+        outcome = λ a z. c .take-record .ensures .0 .outcome a z
+            ∙ line-record (stateIn s (kept (d .args .t .now) (d .args .k) a)) (d .args .n) l clean
+            (c .before .before .word-of .result) told;
+        sound = c .take-record .ensures .0 .sound;
+        fits = c .take-record .ensures .0 .fits;
+        lets = c .take-record .ensures .0 .lets;
+      },
+      c .take-record .ensures .1,
+    )
 
 make-requires : tie.Need-make-requires
 make-requires c κs = search needs
@@ -66,14 +68,16 @@ returns-2 c =
     let k = d .args .k in
     let l = take (d .args .l .len) (drop (d .args .l .from) s) in
     let foul : all allowed l ≡ false = sym (c .before .before .all-allowed .ensures
-    ∙ ap (all allowed) (c .before .before .before .part .ensures)) ∙ c .before .if1 .left in
-    subst (λ (r : Step). LineLeads s t k (d .args .l) (d .args .n) r) (sym (c .make .ensures))
-    (record {
-      outcome = λ a z. line-bad (stateIn s (kept t k a)) (d .args .n) l foul;
-      sound = d .pre .1;
-      fits = tt;
-      lets = tt;
-    })
+    ∙ ap (all allowed) (c .before .before .before .part .ensures)) ∙ c .before .if1 .left in (
+      subst (λ (r : Step). LineLeads s t (d .args .codes .now) k (d .args .l) (d .args .n) r) (sym (c .make .ensures))
+          (record {
+            outcome = λ a z. line-bad (stateIn s (kept t k a)) (d .args .n) l foul;
+            sound = d .pre .1;
+            fits = tt;
+            lets = tt;
+          }),
+      refl,
+    )
 
 pub take-line-spec : {M : Type 1} → statement M
 take-line-spec =

@@ -2,10 +2,11 @@
 use Rattle.grammar.specs.Line.{piecesIn}
 use Rattle.grammar.specs.Record.{recordFor}
 use Rattle.text.specs.declared.known.Known.{Known}
-use Rattle.text.specs.Grown.{atStage}
-use Rattle.text.specs.Known.{kept, stateIn, Sound, after}
-use Rattle.text.specs.Order.{mayStand, stageAfter, inMasked}
-use Rattle.text.specs.Read.{unless}
+use Rattle.rules.specs.Grown.{atStage}
+use Rattle.text.specs.Known.{kept, stateIn, Sound}
+use Rattle.text.specs.Stored.{after}
+use Rattle.rules.specs.Order.{mayStand, stageAfter, inMasked}
+use Rattle.rules.specs.Read.{unless}
 use Rattle.text.specs.Taken.{takes, outcomeIn}
 use Rattle.text.proofs.Laws.Known.{steady}
 use Rattle.text.proofs.Laws.Stages.{stands-le, after-lt}
@@ -24,31 +25,33 @@ may-stand-requires c κs = search needs
 
 take-any-requires : tie.Need-take-any-requires
 take-any-requires c κs =
-    let d = c .before .before .before in
-    (d .pre .0, d .pre .1, λ t. stands-le (d .args .w) (d .args .k .stage) (sym (c .may-stand .ensures) ∙ t))
+    let d = c .before .before .before .before in
+    (d .pre .0, d .pre .1, λ t. stands-le (d .args .w) (d .args .k .stage) (sym (c .before .may-stand .ensures) ∙ t))
 
 returns : tie.Need-returns
 unfolding outcomeIn stateIn
 returns c =
-    let b3 = c .before .before .before in
     let b4 = c .before .before .before .before in
-    let d = c .before .before .before .before .before .before in
+    let b5 = c .before .before .before .before .before in
+    let d = c .before .before .before .before .before .before .before in
     let s = d .args .s .now in
     let t = d .args .t .now in
     let T = c .before .before .take-any in
-    let o = recordFor (d .args .w) (piecesIn s (d .args .l)) in
-    record {
-      outcome = λ a z.
-          let h = kept t (d .args .k) a in
-          record-stops (stateIn s h) (d .args .n) (d .args .w) o (T .result .refusal)
-          (stateIn s (after s h (T .result)))
-          (c .if1 .taken)
-          (T .ensures .outcome a z
-          ∙ (λ i. takes (stateIn s h) (d .args .n) (b3 .may-stand .ensures i) (b4 .«record» .ensures i)));
-      sound = T .ensures .sound;
-      fits = T .ensures .fits;
-      lets = T .ensures .lets;
-    }
+    let o = recordFor (d .args .w) (piecesIn s (d .args .l)) in (
+      record {
+        outcome = λ a z.
+            let h = kept t (d .args .k) a in
+            record-stops (stateIn s h) (d .args .n) (d .args .w) o (T .result .refusal)
+            (stateIn s (after s h (T .result)))
+            (c .if1 .taken)
+            (T .ensures .0 .outcome a z
+            ∙ (λ i. takes (stateIn s h) (d .args .n) (b4 .may-stand .ensures i) (b5 .«record» .ensures i)));
+        sound = T .ensures .0 .sound;
+        fits = T .ensures .0 .fits;
+        lets = T .ensures .0 .lets;
+      },
+      T .ensures .1,
+    )
 
 staged-requires : tie.Need-staged-requires
 staged-requires c κs = search needs
@@ -57,41 +60,44 @@ returns-2 : tie.Need-returns-2
 unfolding outcomeIn stateIn after atStage
 returns-2 c =
     let b3 = c .before .before .before in
-    let b6 = c .before .before .before .before .before .before in
     let b7 = c .before .before .before .before .before .before .before in
-    let d = c .before .before .before .before .before .before .before .before .before in
+    let b8 = c .before .before .before .before .before .before .before .before in
+    let d = c .before .before .before .before .before .before .before .before .before .before in
     let s = d .args .s .now in
     let t = d .args .t .now in
     let w = d .args .w in
     let T = c .before .before .before .before .before .take-any in
     let j = T .result .known in
     let o = recordFor w (piecesIn s (d .args .l)) in
-    let stands = sym (b6 .may-stand .ensures) ∙ T .ensures .stood (b3 .if1 .left) in
+    let stands = sym (b7 .may-stand .ensures) ∙ T .ensures .0 .stood (b3 .if1 .left) in
     let g = stageAfter w (j .stage) in
     let lower : g < inMasked → j .stage < inMasked =
-    after-lt w (j .stage) (ap (mayStand w) (T .ensures .stage) ∙ stands) in
-    let e = c .before .staged .ensures in
-    record {
-      outcome = λ a z.
-          let h = kept t (d .args .k) a in
-          let q = ap (λ (f : ℕ). unless f (stateIn s (after s h (T .result)))) (sym (b3 .if1 .left))
-          ∙ T .ensures .outcome a z
-          ∙ (λ i. takes (stateIn s h) (d .args .n) (b6 .may-stand .ensures i) (b7 .«record» .ensures i)) in
-          ap (λ (k : Known). unless 0 (stateIn s (after s h (record {
-            refusal = 0;
-            known = k;
-            put = T .result .put;
-            map = T .result .map;
-          })))) e
-          ∙ ap (λ (f : ℕ). unless 0 (atStage (stageAfter w f) (stateIn s (after s h (T .result))))) (T .ensures .stage)
-          ∙ record-goes (stateIn s h) (d .args .n) w o (stateIn s (after s h (T .result))) q .1;
-      sound = subst Sound (sym e)
-          (steady j (T .ensures .sound) g (j .shares) (j .mapped) (j .result) (j .outputs) (j .named)
-          (T .ensures .sound .shares) (T .ensures .sound .mapped) (T .ensures .sound .named)
-          (λ l. T .ensures .sound .apart (lower l)));
-      fits = T .ensures .fits;
-      lets = T .ensures .lets;
-    }
+    after-lt w (j .stage) (ap (mayStand w) (T .ensures .0 .stage) ∙ stands) in
+    let e = c .before .staged .ensures in (
+      record {
+        outcome = λ a z.
+            let h = kept t (d .args .k) a in
+            let q = ap (λ (f : ℕ). unless f (stateIn s (after s h (T .result)))) (sym (b3 .if1 .left))
+            ∙ T .ensures .0 .outcome a z
+            ∙ (λ i. takes (stateIn s h) (d .args .n) (b7 .may-stand .ensures i) (b8 .«record» .ensures i)) in
+            ap (λ (k : Known). unless 0 (stateIn s (after s h (record {
+              refusal = 0;
+              known = k;
+              put = T .result .put;
+              map = T .result .map;
+            })))) e
+            ∙ ap (λ (f : ℕ). unless 0 (atStage (stageAfter w f) (stateIn s (after s h (T .result)))))
+            (T .ensures .0 .stage)
+            ∙ record-goes (stateIn s h) (d .args .n) w o (stateIn s (after s h (T .result))) q .1;
+        sound = subst Sound (sym e)
+            (steady j (T .ensures .0 .sound) g (j .shares) (j .mapped) (j .result) (j .outputs) (j .named)
+            (T .ensures .0 .sound .shares) (T .ensures .0 .sound .mapped) (T .ensures .0 .sound .named)
+            (λ l. T .ensures .0 .sound .apart (lower l)));
+        fits = T .ensures .0 .fits;
+        lets = T .ensures .0 .lets;
+      },
+      T .ensures .1,
+    )
 
 pub take-record-spec : {M : Type 1} → statement M
 take-record-spec =

@@ -1,6 +1,6 @@
 -- At each return the tests that led there. Assumes nothing.
 use Rattle.text.specs.Taken.{firstFault}
-use Rattle.text.specs.Read.{firstOf}
+use Rattle.rules.specs.Read.{firstOf}
 use Rattle.text.proofs.step.first_fault.Statement.{statement}
 use Rattle.text.proofs.step.first_fault.Tie as tie
 

@@ -3,8 +3,9 @@ use Prim.Native.Nat.{_<_}
 use native.Mathlib.Omega.{arith}
 use mathlib.Core.Path.{ap, sym, subst}
 use Rattle.text.specs.declared.step.Put.{Put}
-use Rattle.text.specs.Limits.{mostMaps}
-use Rattle.text.specs.Known.{Fits, mapsAfter}
+use Rattle.rules.specs.Limits.{mostMaps}
+use Rattle.text.specs.Added.{Fits}
+use Rattle.text.specs.Stored.{mapsAfter}
 use borrow.Author.Needs.{needs}
 use Rattle.text.proofs.step.maps_after.Statement.{statement}
 use Rattle.text.proofs.step.maps_after.Tie as tie

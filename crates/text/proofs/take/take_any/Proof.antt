@@ -11,17 +11,17 @@ use Rattle.grammar.specs.Recorded.{recordIn}
 use Rattle.grammar.specs.Line.{piecesIn}
 use Rattle.text.proofs.Laws.Taking.{took-bad}
 use Prim.Native.Nat.{ℕ}
-use mathlib.Core.Path.{_≡_, ap, sym}
+use mathlib.Core.Path.{_≡_, refl, ap, sym}
 use mathlib.Core.List.{List}
 use borrow.Author.Needs.{needs}
 use Rattle.text.proofs.take.take_any.Statement.{statement}
 use Rattle.text.proofs.take.take_any.Tie as tie
 
 -- the record is known
-known : (s t : List ℕ) (ps : List (List ℕ)) (k : Known) (n : ℕ) (stands : Bool) {r q : Rec} {x : Step} → r ≡ q
-    → Took s t k n stands (recordIn s ps q) x → Took s t k n stands (recordIn s ps r) x
-known s t ps k n stands {x = x} e T =
-    subst (λ (o : Option Record). Took s t k n stands o x) (ap (recordIn s ps) (sym e)) T
+known : (s t codes : List ℕ) (ps : List (List ℕ)) (k : Known) (n : ℕ) (stands : Bool) {r q : Rec} {x : Step} → r ≡ q
+    → Took s t codes k n stands (recordIn s ps q) x → Took s t codes k n stands (recordIn s ps r) x
+known s t codes ps k n stands {x = x} e T =
+    subst (λ (o : Option Record). Took s t codes k n stands o x) (ap (recordIn s ps) (sym e)) T
 
 enum-told : tie.Need-enum-told
 enum-told c = search needs
@@ -87,90 +87,110 @@ returns : tie.Need-returns
 unfolding recordIn
 returns c =
     let d = c .before .before .before .before in
-    let s = d .args .s .now in
-    took-bad s (d .args .t .now) (d .args .k) (d .pre .1) (d .args .n) (d .args .stands)
-    (ap (recordIn s (piecesIn s (d .args .l))) (sym (c .before .enum-told .given .1))) (c .make .ensures)
+    let s = d .args .s .now in (
+      took-bad s (d .args .t .now) (d .args .k) (d .pre .1) (d .args .n) (d .args .stands)
+          (ap (recordIn s (piecesIn s (d .args .l))) (sym (c .before .enum-told .given .1))) (c .make .ensures),
+      refl,
+    )
 
 returns-2 : tie.Need-returns-2
 unfolding recordIn
 returns-2 c =
     let d = c .before .before .before .before .before in
     let s = d .args .s .now in
-    let ps = piecesIn s (d .args .l) in
-    known s (d .args .t .now) ps (d .args .k) (d .args .n) (d .args .stands) (c .before .before .r .given .1)
-    (c .take-shares .ensures s (d .args .t .now) ps (d .args .n))
+    let ps = piecesIn s (d .args .l) in (
+      known s (d .args .t .now) _ ps (d .args .k) (d .args .n) (d .args .stands) (c .before .before .r .given .1)
+          (c .take-shares .ensures s (d .args .t .now) _ ps (d .args .n)),
+      refl,
+    )
 
 returns-3 : tie.Need-returns-3
 unfolding recordIn
 returns-3 c =
     let d = c .before .before .before .before .before in
     let s = d .args .s .now in
-    let ps = piecesIn s (d .args .l) in
-    known s (d .args .t .now) ps (d .args .k) (d .args .n) (d .args .stands) (c .before .before .r2 .given .1)
-    (c .take-map .ensures (d .args .n))
+    let ps = piecesIn s (d .args .l) in (
+      known s (d .args .t .now) _ ps (d .args .k) (d .args .n) (d .args .stands) (c .before .before .r2 .given .1)
+          (c .take-map .ensures _ (d .args .n)),
+      refl,
+    )
 
 returns-4 : tie.Need-returns-4
 unfolding recordIn
 returns-4 c =
     let d = c .before .before .before .before .before in
     let s = d .args .s .now in
-    let ps = piecesIn s (d .args .l) in
-    known s (d .args .t .now) ps (d .args .k) (d .args .n) (d .args .stands) (c .before .before .r3 .given .1)
-    (c .take-input .ensures ps (d .args .n))
+    let ps = piecesIn s (d .args .l) in (
+      known s (d .args .t .now) _ ps (d .args .k) (d .args .n) (d .args .stands) (c .before .before .r3 .given .1)
+          (c .take-input .ensures _ ps (d .args .n)),
+      refl,
+    )
 
 returns-5 : tie.Need-returns-5
 unfolding recordIn
 returns-5 c =
     let d = c .before .before .before .before in
     let s = d .args .s .now in
-    let ps = piecesIn s (d .args .l) in
-    known s (d .args .t .now) ps (d .args .k) (d .args .n) (d .args .stands) (c .before .enum-told2 .given .1)
-    (c .take-mark .ensures s (d .args .t .now) .0 ps (d .args .n))
+    let ps = piecesIn s (d .args .l) in (
+      known s (d .args .t .now) _ ps (d .args .k) (d .args .n) (d .args .stands) (c .before .enum-told2 .given .1)
+          (c .take-mark .ensures s (d .args .t .now) .0 _ ps (d .args .n)),
+      refl,
+    )
 
 returns-6 : tie.Need-returns-6
 unfolding recordIn
 returns-6 c =
     let d = c .before .before .before .before .before in
     let s = d .args .s .now in
-    let ps = piecesIn s (d .args .l) in
-    known s (d .args .t .now) ps (d .args .k) (d .args .n) (d .args .stands) (c .before .before .r4 .given .1)
-    (c .take-statement .ensures ps)
+    let ps = piecesIn s (d .args .l) in (
+      known s (d .args .t .now) _ ps (d .args .k) (d .args .n) (d .args .stands) (c .before .before .r4 .given .1)
+          (c .take-statement .ensures _ ps),
+      refl,
+    )
 
 returns-7 : tie.Need-returns-7
 unfolding recordIn
 returns-7 c =
-    let d = c .before .before .before .before .before in
+    let d = c .before .before .before .before .before .before in
     let s = d .args .s .now in
-    let ps = piecesIn s (d .args .l) in
-    known s (d .args .t .now) ps (d .args .k) (d .args .n) (d .args .stands) (c .before .before .r5 .given .1)
-    (c .take-let .ensures)
+    let ps = piecesIn s (d .args .l) in (
+      known s (d .args .t .now) _ ps (d .args .k) (d .args .n) (d .args .stands)
+          (c .before .before .before .r5 .given .1) (c .take-let .ensures .0),
+      c .take-let .ensures .1,
+    )
 
 returns-8 : tie.Need-returns-8
 unfolding recordIn
 returns-8 c =
     let d = c .before .before .before .before .before in
     let s = d .args .s .now in
-    let ps = piecesIn s (d .args .l) in
-    known s (d .args .t .now) ps (d .args .k) (d .args .n) (d .args .stands) (c .before .before .r6 .given .1)
-    (c .take-result .ensures ps (d .args .n))
+    let ps = piecesIn s (d .args .l) in (
+      known s (d .args .t .now) _ ps (d .args .k) (d .args .n) (d .args .stands) (c .before .before .r6 .given .1)
+          (c .take-result .ensures _ ps (d .args .n)),
+      refl,
+    )
 
 returns-9 : tie.Need-returns-9
 unfolding recordIn
 returns-9 c =
     let d = c .before .before .before .before in
     let s = d .args .s .now in
-    let ps = piecesIn s (d .args .l) in
-    known s (d .args .t .now) ps (d .args .k) (d .args .n) (d .args .stands) (c .before .enum-told3 .given .1)
-    (c .take-mark2 .ensures s (d .args .t .now) .1 ps (d .args .n))
+    let ps = piecesIn s (d .args .l) in (
+      known s (d .args .t .now) _ ps (d .args .k) (d .args .n) (d .args .stands) (c .before .enum-told3 .given .1)
+          (c .take-mark2 .ensures s (d .args .t .now) .1 _ ps (d .args .n)),
+      refl,
+    )
 
 returns-10 : tie.Need-returns-10
 unfolding recordIn
 returns-10 c =
     let d = c .before .before .before .before in
     let s = d .args .s .now in
-    let ps = piecesIn s (d .args .l) in
-    known s (d .args .t .now) ps (d .args .k) (d .args .n) (d .args .stands) (c .before .enum-told4 .given .1)
-    (c .take-output .ensures (d .args .n))
+    let ps = piecesIn s (d .args .l) in (
+      known s (d .args .t .now) _ ps (d .args .k) (d .args .n) (d .args .stands) (c .before .enum-told4 .given .1)
+          (c .take-output .ensures _ (d .args .n)),
+      refl,
+    )
 
 pub take-any-spec : {M : Type 1} → statement M
 take-any-spec =

@@ -2,7 +2,8 @@
 use Rattle.grammar.specs.Record.{nests}
 use Rattle.grammar.specs.Record.{origin, masked}
 use Rattle.grammar.specs.Recorded.{recordIn}
-use Rattle.text.specs.Scope.{repeats, readsUnknown, exceeds, miscounts, added}
+use Rattle.rules.specs.Faults.{repeats, readsUnknown, exceeds, miscounts}
+use Rattle.rules.specs.Added.{added}
 use Rattle.text.proofs.Laws.Taking.{took-set}
 use mathlib.Core.Path.{refl}
 use borrow.Author.Needs.{needs}
@@ -21,12 +22,12 @@ returns c = λ s t.
     let a = c .before .before .args in
     let K = c .before .before .pre in
     let q = c .before .first-fault .ensures in (
-      λ ps n.
+      λ codes ps n.
           took-set s t (a .k) K n (a .stands) origin refl q (a .k) refl K
           (λ x z. record { repeats = refl; unknown = refl; exceeds = refl; miscounts = refl; shallow = refl })
           (λ x. refl)
           (c .make .ensures),
-      λ ps n.
+      λ codes ps n.
           took-set s t (a .k) K n (a .stands) masked refl q (a .k) refl K
           (λ x z. record { repeats = refl; unknown = refl; exceeds = refl; miscounts = refl; shallow = refl })
           (λ x. refl)

@@ -7,11 +7,12 @@ use Rattle.grammar.specs.Recorded.{namesOf, namesRead, recordIn}
 use Rattle.tokens.specs.Token.{Name, _>>=_}
 use Rattle.grammar.specs.Line.{piecesIn}
 use Rattle.grammar.specs.Record.{output}
-use Rattle.text.specs.Grown.{withOutputs}
-use Rattle.text.specs.Scope.{repeats, readsUnknown, exceeds, miscounts, added}
+use Rattle.rules.specs.Grown.{withOutputs}
+use Rattle.rules.specs.Faults.{repeats, readsUnknown, exceeds, miscounts}
+use Rattle.rules.specs.Added.{added}
 use Rattle.text.specs.Known.{kept, stateIn}
 use Rattle.text.proofs.Laws.Known.{steady}
-use Rattle.text.proofs.Laws.Named.{names-length}
+use Rattle.lookup.proofs.Laws.Named.{names-length}
 use Rattle.text.proofs.Laws.Taking.{took-bad, took-set}
 use native.Mathlib.Omega.{arith}
 use Prim.Native.Nat.{ℕ, _≤_}
@@ -39,7 +40,7 @@ make-requires c κs = search needs
 
 returns : tie.Need-returns
 unfolding recordIn repeats readsUnknown exceeds miscounts added stateIn namesRead withOutputs nests
-returns c = λ n.
+returns c = λ codes n.
     let d = c .before .before .before .before .before .before .before .before .before in
     let k = d .args .k in
     let K = d .pre .1 in
@@ -72,7 +73,7 @@ make-requires-2 c κs = search needs
 
 returns-2 : tie.Need-returns-2
 unfolding recordIn
-returns-2 c = λ n.
+returns-2 c = λ codes n.
     let d = c .before .before .before .before in
     let s = d .args .s .now in
     let here : none ≡ namesOf (piecesIn s (d .args .l)) = sym (simp (c .before .if1 .left))

@@ -5,10 +5,11 @@ use Rattle.grammar.specs.declared.line.NameRead.{NameRead}
 use Rattle.grammar.specs.Line.{nameIn}
 use Rattle.grammar.specs.Record.{result}
 use Rattle.grammar.specs.Recorded.{recordIn}
-use Rattle.text.specs.declared.scope.NameFound.{NameFound}
-use Rattle.text.specs.Found.{nameFound}
-use Rattle.text.specs.Grown.{withResult}
-use Rattle.text.specs.Scope.{repeats, readsUnknown, exceeds, miscounts, added}
+use Rattle.lookup.specs.declared.scope.NameFound.{NameFound}
+use Rattle.lookup.specs.Found.{nameFound}
+use Rattle.rules.specs.Grown.{withResult}
+use Rattle.rules.specs.Faults.{repeats, readsUnknown, exceeds, miscounts}
+use Rattle.rules.specs.Added.{added}
 use Rattle.text.specs.Known.{kept, stateIn}
 use Rattle.text.proofs.Laws.Known.{steady}
 use Rattle.text.proofs.Laws.Taking.{took-bad, took-set}
@@ -37,7 +38,7 @@ make-requires-2 c κs = search needs
 
 returns : tie.Need-returns
 unfolding recordIn repeats readsUnknown exceeds miscounts added stateIn nameFound withResult nests
-returns c = λ ps n.
+returns c = λ codes ps n.
     let d = c .before .before .before .before .before .before .before in
     let k = d .args .k in
     let K = d .pre in
@@ -62,7 +63,7 @@ returns c = λ ps n.
 
 returns-2 : tie.Need-returns-2
 unfolding recordIn
-returns-2 c = λ ps n.
+returns-2 c = λ codes ps n.
     let d = c .before .before .before .before in
     let s = d .args .s .now in
     took-bad s (d .args .t .now) (d .args .k) (d .pre) n (d .args .stands)

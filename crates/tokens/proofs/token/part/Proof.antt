@@ -1,12 +1,22 @@
 -- At each `return` the tests that led there say which case of `readPart` holds. Assumes nothing.
-use Prim.Native.Nat.{_+_}
+use Prim.Native.Nat.{ℕ, _+_, _-_}
 use Rattle.tokens.proofs.token.part.Statement.{statement}
 use Rattle.tokens.proofs.token.part.Tie as tie
-use Rattle.tokens.specs.Token.{readPart}
+use Rattle.tokens.specs.Ascii.{dot, within}
+use Rattle.tokens.specs.Token.{readPart, provided}
 use borrow.Author.Needs.{needs}
 use borrow.Author.Tests.{lt-leb, le-leb, eq-eqb, ne-eqb}
 use lib.ListN.{length, getD}
+use mathlib.Core.List.{List}
+use mathlib.Core.Path.{_≡_}
 use native.Mathlib.Omega.{arith}
+
+-- a dot and one byte more stand behind: the byte decides
+behind-dot : (n : ℕ) (f : List ℕ) → length f ≡ n + 2 → getD f n 0 ≡ dot
+    → readPart n f ≡ provided (within 48 55 (getD f (n + 1) 0)) (getD f (n + 1) 0 - 48)
+unfolding readPart
+behind-dot n f l e =
+    simp (ne-eqb (length f) n (omega arith), eq-eqb (length f) (n + 2) l, eq-eqb (getD f n 0) 46 e)
 
 returns : tie.Need-returns
 unfolding readPart
@@ -47,45 +57,28 @@ shared-slice-read-d : tie.Need-shared-slice-read-d
 shared-slice-read-d c = search needs
 
 returns-4 : tie.Need-returns-4
-unfolding readPart
 returns-4 c =
     let f = c .before .before .before .before .before .before .args .f .now in
     let n = c .before .before .before .before .before .before .args .n in
-    simp (
-      ne-eqb (length f) n (c .before .before .before .before .before .if1 .left),
-      eq-eqb (length f) (n + 2)
-          (omega arith),
-      eq-eqb (getD f n 0) 46 (c .before .before .if3 .left),
-      lt-leb 48 (getD f (n + 1) 0) (omega arith),
-    )
+    simp (behind-dot n f (omega arith) (c .before .before .if3 .left), lt-leb 48 (getD f (n + 1) 0) (omega arith))
 
 returns-5 : tie.Need-returns-5
-unfolding readPart
 returns-5 c =
     let f = c .before .before .before .before .before .before .before .args .f .now in
     let n = c .before .before .before .before .before .before .before .args .n in
     simp (
-      ne-eqb (length f) n (c .before .before .before .before .before .before .if1 .left),
-      eq-eqb (length f) (n + 2)
-          (omega arith),
-      eq-eqb (getD f n 0) 46 (c .before .before .before .if3 .left),
-      le-leb 48 (getD f (n + 1) 0)
-          (omega arith),
+      behind-dot n f (omega arith) (c .before .before .before .if3 .left),
+      le-leb 48 (getD f (n + 1) 0) (omega arith),
       lt-leb (getD f (n + 1) 0) 55 (omega arith),
     )
 
 returns-6 : tie.Need-returns-6
-unfolding readPart
 returns-6 c =
     let f = c .before .before .before .before .before .before .before .args .f .now in
     let n = c .before .before .before .before .before .before .before .args .n in
     simp (
-      ne-eqb (length f) n (c .before .before .before .before .before .before .if1 .left),
-      eq-eqb (length f) (n + 2)
-          (omega arith),
-      eq-eqb (getD f n 0) 46 (c .before .before .before .if3 .left),
-      le-leb 48 (getD f (n + 1) 0)
-          (omega arith),
+      behind-dot n f (omega arith) (c .before .before .before .if3 .left),
+      le-leb 48 (getD f (n + 1) 0) (omega arith),
       le-leb (getD f (n + 1) 0) 55 (omega arith),
     )
 

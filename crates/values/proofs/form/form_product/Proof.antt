@@ -1,9 +1,9 @@
 -- `values::form::form_product` meets its contract. The lent parts of right are the two operands. Assumes nothing.
-use lib.ListN.{replicate, take}
+use lib.ListN.{replicate, take, length}
 use native.Mathlib.Omega.{arith}
-use Prim.Native.Nat.{ℕ, _-_}
+use Prim.Native.Nat.{ℕ, _*_, _-_, _≤_}
 use borrow.Author.Needs.{needs}
-use Rattle.values.proofs.Laws.Forming.{first-row, product-asked, product-formed, row-lent}
+use Rattle.values.proofs.Laws.Forming.{first-row, first-inside, product-asked, product-formed, row-lent}
 use Rattle.values.proofs.form.form_product.Statement.{statement}
 use Rattle.values.specs.Load.{mostTermBytes}
 use Rattle.values.proofs.form.form_product.Tie as tie
@@ -25,6 +25,15 @@ mul-from c =
     let p = c .before .before .before .before .before .before .before .before .before .pre in
     omega (arith, first-row (c .before .size-of .ensures) (c .size-of2 .ensures) (p .0))
 
+-- the first operand's bytes lie in right
+inside : (c : tie.After-size-of2)
+    → c .before .size-of .result * c .before .before .before .before .before .before .before .before .before .args .w
+    ≤ length (c .before .before .before .before .load-pair .last .1 .1 .1 .0)
+inside c =
+    first-inside (c .before .size-of .ensures) (c .size-of2 .ensures)
+    (c .before .before .before .before .before .before .before .before .before .pre .0)
+    (c .before .before .before .before .load-pair .ensures)
+
 sub-product : tie.Need-sub-product
 sub-product c = search needs
 
@@ -41,30 +50,13 @@ part-product-start-2 : tie.Need-part-product-start-2
 part-product-start-2 c = search needs
 
 part-product-end-2 : tie.Need-part-product-end-2
-part-product-end-2 c =
-    let p = c .before .before .before .before .before .before .before .before .before .before .before .pre in
-    let load-pair = c .before .before .before .before .before .before .load-pair in
-    let size-of = c .before .before .before .size-of in
-    let size-of2 = c .before .before .size-of2 in
-    omega (arith, load-pair .ensures .size, first-row (size-of .ensures) (size-of2 .ensures) (p .0))
+part-product-end-2 c = inside (c .before .before)
 
 sub-product-3 : tie.Need-sub-product-3
-sub-product-3 c =
-    let b = c .before .before .before .before .before .before .before .before in
-    let p = b .before .before .before .before .pre in
-    let load-pair = c .before .before .before .before .before .before .before .load-pair in
-    let size-of = c .before .before .before .before .size-of in
-    let size-of2 = c .before .before .before .size-of2 in
-    omega (arith, load-pair .ensures .size, first-row (size-of .ensures) (size-of2 .ensures) (p .0))
+sub-product-3 c = inside (c .before .before .before)
 
 part-product-start-3 : tie.Need-part-product-start-3
-part-product-start-3 c =
-    let b = c .before .before .before .before .before .before .before .before in
-    let p = b .before .before .before .before .pre in
-    let load-pair = c .before .before .before .before .before .before .before .load-pair in
-    let size-of = c .before .before .before .before .size-of in
-    let size-of2 = c .before .before .before .size-of2 in
-    omega (arith, load-pair .ensures .size, first-row (size-of .ensures) (size-of2 .ensures) (p .0))
+part-product-start-3 c = inside (c .before .before .before)
 
 part-product-end-3 : tie.Need-part-product-end-3
 part-product-end-3 c = search needs

@@ -44,15 +44,18 @@ returns : tie.Need-returns
 returns c = set-found (c .before .before .op .given .1) (c .locate .ensures)
 
 returns-2 : tie.Need-returns-2
-returns-2 c = xor-found (c .before .before .before .op2 .given .1) (c .before .locate2 .ensures) (c .locate3 .ensures)
+returns-2 c =
+    xor-found (c .before .before .before .op2 .given .1) (c .before .before .before .before .before .pre .0)
+    (c .before .locate2 .ensures) (c .locate3 .ensures)
 
 returns-3 : tie.Need-returns-3
-returns-3 c = mul-found (c .before .before .before .op3 .given .1) (c .before .locate4 .ensures) (c .locate5 .ensures)
+returns-3 c =
+    mul-found (c .before .before .before .op3 .given .1) (c .before .before .before .before .before .pre .0)
+    (c .before .locate4 .ensures) (c .locate5 .ensures)
 
 returns-4 : tie.Need-returns-4
 returns-4 c =
-    let p = c .before .before .before .before .pre in
-    app-found (c .before .before .op4 .given .1) (p .1) (c .locate6 .ensures)
+    app-found (c .before .before .op4 .given .1) (c .before .before .before .before .pre) (c .locate6 .ensures)
 
 returns-5 : tie.Need-returns-5
 returns-5 c = rand-found (c .before .before .op5 .given .1) (c .draw .ensures)

@@ -33,9 +33,8 @@ same-length c = search needs
 
 returns : tie.Need-returns
 returns c =
-    let p = c .before .before .before .before .before .before .before .pre in
-    let write-at = c .before .before .write-at in
-    lay-stored-law _ _ _ _ _ _ _ (p .0) (p .1) (write-at .ensures)
+    lay-stored-law _ _ _ _ _ _ _ (c .before .before .before .before .before .before .before .pre)
+    (c .before .before .write-at .ensures)
 
 pub lay-stored-spec : {M : Type 1} → statement M
 lay-stored-spec =

@@ -1,7 +1,7 @@
 -- `values::source::locate` meets its contract. Both arms by their law. Assumes nothing.
 use mathlib.Core.Path.{subst, sym}
 use borrow.Author.Needs.{needs}
-use Rattle.text.specs.declared.types.Operand.{Operand}
+use Rattle.rules.specs.declared.types.Operand.{Operand}
 use Rattle.values.specs.declared.source.Source.the-variants.{Constant}
 use Rattle.values.specs.Source.{Located}
 use Rattle.values.proofs.Laws.Sources.{located-byte}

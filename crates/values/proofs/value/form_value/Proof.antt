@@ -10,24 +10,24 @@ enum-known-found c = search needs
 
 form-copy-requires : tie.Need-form-copy-requires
 form-copy-requires c κs =
-    let s = c .before .before .before .before .before .before .before in
-    copy-asked (s .pre) (c .before .before .before .found .given .1)
+    copy-asked (c .before .before .before .before .before .before .before .pre)
+    (c .before .before .before .found .given .1)
 
 enum-known-found-2 : tie.Need-enum-known-found-2
 enum-known-found-2 c = search needs
 
 form-sum-requires : tie.Need-form-sum-requires
 form-sum-requires c κs =
-    let s = c .before .before .before .before .before .before .before in
-    sum-asked (s .pre) (c .before .before .before .found2 .given .1)
+    sum-asked (c .before .before .before .before .before .before .before .pre)
+    (c .before .before .before .found2 .given .1)
 
 enum-known-found-3 : tie.Need-enum-known-found-3
 enum-known-found-3 c = search needs
 
 form-product-requires : tie.Need-form-product-requires
 form-product-requires c κs =
-    let s = c .before .before .before .before .before .before .before in
-    product-asked (s .pre) (c .before .before .before .found3 .given .1)
+    product-asked (c .before .before .before .before .before .before .before .pre)
+    (c .before .before .before .found3 .given .1)
 
 enum-known-found-4 : tie.Need-enum-known-found-4
 enum-known-found-4 c = search needs
@@ -37,16 +37,16 @@ array-read-form-image c = image-asked (c .before .before .before .before .before
 
 form-image-requires : tie.Need-form-image-requires
 form-image-requires c κs =
-    let s = c .before .before .before .before .before .before .before in
-    image-asked (s .pre) (c .before .before .before .found4 .given .1)
+    image-asked (c .before .before .before .before .before .before .before .pre)
+    (c .before .before .before .found4 .given .1)
 
 enum-known-found-5 : tie.Need-enum-known-found-5
 enum-known-found-5 c = search needs
 
 form-copy-requires-2 : tie.Need-form-copy-requires-2
 form-copy-requires-2 c κs =
-    let s = c .before .before .before .before .before .before .before in
-    draw-asked (s .pre) (c .before .before .before .found5 .given .1)
+    draw-asked (c .before .before .before .before .before .before .before .pre)
+    (c .before .before .before .found5 .given .1)
 
 same-length : tie.Need-same-length
 same-length c = search needs
@@ -57,9 +57,8 @@ same-length-2 c = search needs
 returns : tie.Need-returns
 unfolding foundValue
 returns c =
-    let b = c .before .before .before .before .before .before .before .before in
-    let a = b .before .before .before .before .args in
-    formed-at (a .m) (a .lists) (a .t3) (a .left .now) _ (a .top) (a .w) _ (b .found .given .1)
+    formed-at (c .before .before .before .before .before .before .before .before .before .before .before .before .pre)
+    (c .before .before .before .before .before .before .before .before .found .given .1)
     (c .before .before .before .before .form-copy .ensures)
 
 same-length-3 : tie.Need-same-length-3
@@ -71,9 +70,8 @@ same-length-4 c = search needs
 returns-2 : tie.Need-returns-2
 unfolding foundValue
 returns-2 c =
-    let b = c .before .before .before .before .before .before .before .before in
-    let a = b .before .before .before .before .args in
-    formed-at (a .m) (a .lists) (a .t3) (a .left .now) _ (a .top) (a .w) _ (b .found2 .given .1)
+    formed-at (c .before .before .before .before .before .before .before .before .before .before .before .before .pre)
+    (c .before .before .before .before .before .before .before .before .found2 .given .1)
     (c .before .before .before .before .form-sum .ensures)
 
 same-length-5 : tie.Need-same-length-5
@@ -85,9 +83,8 @@ same-length-6 c = search needs
 returns-3 : tie.Need-returns-3
 unfolding foundValue
 returns-3 c =
-    let b = c .before .before .before .before .before .before .before .before in
-    let a = b .before .before .before .before .args in
-    formed-at (a .m) (a .lists) (a .t3) (a .left .now) _ (a .top) (a .w) _ (b .found3 .given .1)
+    formed-at (c .before .before .before .before .before .before .before .before .before .before .before .before .pre)
+    (c .before .before .before .before .before .before .before .before .found3 .given .1)
     (c .before .before .before .before .form-product .ensures)
 
 same-length-7 : tie.Need-same-length-7
@@ -99,9 +96,8 @@ same-length-8 c = search needs
 returns-4 : tie.Need-returns-4
 unfolding foundValue
 returns-4 c =
-    let b = c .before .before .before .before .before .before .before .before in
-    let a = b .before .before .before .before .args in
-    formed-at (a .m) (a .lists) (a .t3) (a .left .now) _ (a .top) (a .w) _ (b .found4 .given .1)
+    formed-at (c .before .before .before .before .before .before .before .before .before .before .before .before .pre)
+    (c .before .before .before .before .before .before .before .before .found4 .given .1)
     (c .before .before .before .before .form-image .ensures)
 
 same-length-9 : tie.Need-same-length-9
@@ -113,9 +109,8 @@ same-length-10 c = search needs
 returns-5 : tie.Need-returns-5
 unfolding foundValue
 returns-5 c =
-    let b = c .before .before .before .before .before .before .before .before in
-    let a = b .before .before .before .before .args in
-    formed-at (a .m) (a .lists) (a .t3) (a .left .now) _ (a .top) (a .w) _ (b .found5 .given .1)
+    formed-at (c .before .before .before .before .before .before .before .before .before .before .before .before .pre)
+    (c .before .before .before .before .before .before .before .before .found5 .given .1)
     (c .before .before .before .before .form-copy2 .ensures)
 
 pub form-value-spec : {M : Type 1} → statement M

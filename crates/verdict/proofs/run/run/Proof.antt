@@ -1,6 +1,6 @@
 -- What reading gave, run. Assumes nothing.
 use mathlib.Core.Path.{ap, _∙_}
-use Rattle.text.specs.Read.{Reading}
+use Rattle.rules.specs.Read.{Reading}
 use Rattle.text.specs.Reading.{Within}
 use Rattle.text.proofs.Laws.Counts.{reading-counted}
 use Rattle.verdict.specs.Run.{runReading}

@@ -1,0 +1,10 @@
+pub mod Named
+pub mod Alike
+pub mod Shares
+pub mod Arrays
+pub mod Finding
+pub mod Looking
+pub mod Parts
+pub mod Begun
+pub mod Decoding
+pub mod Compiling

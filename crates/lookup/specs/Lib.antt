@@ -1,0 +1,4 @@
+pub mod Names
+pub mod Found
+pub mod Coded
+pub mod Compiled
