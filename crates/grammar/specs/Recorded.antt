@@ -1,16 +1,15 @@
 -- What the code's records by place stand for in a text; ps are the pieces of the record's line.
-use Prim.Native.Nat.{ℕ, _+_, _≤_}
+-- Assumes nothing.
+use Prim.Native.Nat.{ℕ, _≤_}
 use mathlib.Core.Path.{_≡_}
 use mathlib.Core.Bool.{false, cond}
 use mathlib.Core.List.{List, map as mapList}
 use mathlib.Core.Option.{Option, none, some}
-use lib.Dec.{eqb}
 use lib.ListN.{length, take, drop}
-use Rattle.tokens.specs.Ascii.{within}
 use Rattle.tokens.specs.Answer.{numberAt}
 use Rattle.tokens.specs.declared.word.Word.{Word}
+use Rattle.tokens.specs.declared.word.Word.the-variants as Word
 use Rattle.grammar.specs.declared.line.Line.{Line}
-use Rattle.grammar.specs.declared.line.NameRead.{NameRead}
 use Rattle.grammar.specs.declared.lists.Columns.{Columns}
 use Rattle.grammar.specs.declared.lists.Outputs.{Outputs}
 use Rattle.grammar.specs.declared.record.Rec.{Rec}
@@ -20,26 +19,26 @@ use Rattle.grammar.specs.declared.record.FormRead.{FormRead}
 use Rattle.grammar.specs.declared.record.FormRead.the-variants.{Set, Two, App, Rand}
 use Rattle.grammar.specs.declared.record.Binary.{Binary}
 use Rattle.grammar.specs.declared.record.Binary.the-variants as Binary
-use Rattle.tokens.specs.Limits.{columnCount, mostShares}
+use Rattle.tokens.specs.Limits.{mostShares}
 use Rattle.tokens.specs.Token.{_>>=_, Name, Term, readHex, readName}
 use Rattle.grammar.specs.Line.{nameIn}
 use Rattle.grammar.specs.Formula.{Formula, readFormula}
 use Rattle.grammar.specs.Record.{Record, shares, map, input, origin, assign, letting, result, masked, output}
-use Rattle.grammar.specs.Record.{Form, set, xor, mul, app, rand, each, field, fields, assigned, operands}
+use Rattle.grammar.specs.Record.{Form, set, xor, mul, app, rand, each, field, counted}
 use Rattle.grammar.specs.Record.{recordFor}
-use Rattle.grammar.specs.Line.{piecesIn, fieldIn, nameAt, termAt}
+use Rattle.grammar.specs.Line.{piecesIn, nameAt, termAt}
 
--- the columns of a map line, where it has the word, a name, a constant and eight fields more
+-- the columns of a map line, where it has its number of fields
 unfoldable pub columnsOf : List (List ℕ) → Option (List ℕ)
-columnsOf ps = cond (eqb (length ps) (3 + columnCount)) (each readHex (drop 3 ps)) none
+columnsOf ps = counted Word.Map ps (each readHex (drop 3 ps))
 
--- the formula of a line that has the word, a name and one field more
+-- the formula of a line, where it has its number of fields
 unfoldable pub formulaOf : List (List ℕ) → Option Formula
-formulaOf ps = cond (eqb (length ps) 3) (readFormula (field 2 ps)) none
+formulaOf ps = counted Word.Let ps (readFormula (field 2 ps))
 
 -- the names of an output line, where there are 1 to 8 of them
 unfoldable pub namesOf : List (List ℕ) → Option (List Name)
-namesOf ps = cond (within 2 (mostShares + 1) (length ps)) (each readName (drop 1 ps)) none
+namesOf ps = counted Word.Output ps (each readName (drop 1 ps))
 
 -- the operation on two operands
 abbrev pub binary : Binary → Term → Term → Form
@@ -81,19 +80,6 @@ recordIn s ps Output = namesOf ps >>= λ xs. some (output xs)
 -- the code's record of a line is the one that the definition reads, for the word w
 abbrev pub Reads : List ℕ → Line → Rec → Word → Type 0
 Reads s l r w = recordIn s (piecesIn s l) r ≡ recordFor w (piecesIn s l)
-
--- the record m, where the line is its word alone
-abbrev pub MarkIs : List ℕ → Line → Rec → Rec → Type 0
-MarkIs s l m r = recordIn s (piecesIn s l) r ≡ fields 0 (piecesIn s l) (recordIn s (piecesIn s l) m)
-
--- the statement of a word with two operands
-abbrev pub TwoIs : List ℕ → Line → Binary → Rec → Type 0
-TwoIs s l f r =
-    let ps = piecesIn s l in recordIn s ps r ≡ fields 3 ps (assigned ps (operands (binary f) ps))
-
--- the name of a line with one field
-abbrev pub OnlyIs : List ℕ → Line → NameRead → Type 0
-OnlyIs s l r = nameAt s r ≡ fields 1 (piecesIn s l) (readName (fieldIn s l 1))
 
 -- the columns that were read, or none
 abbrev pub columnsIn : Columns → Option (List ℕ)

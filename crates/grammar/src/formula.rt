@@ -5,12 +5,12 @@ use crate::line::Line;
 use crate::record;
 use crate::record::Binary;
 use tokens::bytes;
-use tokens::limits::LET_PIECES;
 use tokens::limits::NO_PART;
 use tokens::split;
 use tokens::token;
 use tokens::token::NameForm;
 use tokens::token::TermForm;
+use tokens::word::Word;
 ghost use mathlib.Core.Path.{_≡_};
 ghost use Prim.Native.Nat.{_+_, _-_, _≤_};
 ghost use lib.ListN.{length, take, drop};
@@ -46,11 +46,11 @@ pub fn line_formula(s: &[u8], l: Line) -> FormulaRead
     requires { ⌜ Inside (now s) l ⌝ }
     ensures { λ r. ⌜ MeasureIs r (formulaOf (piecesIn (now (s .entry)) l)) ⌝ }
 {
-    if record::piece_count(s, l) != LET_PIECES {
-        return part_read(false, 0);
+    if record::fits_word(s, l, Word::Let) {
+        let f = line::field(s, l, 2);
+        return read_formula(split::part(s, f.at, f.len));
     }
-    let f = line::field(s, l, 2);
-    read_formula(split::part(s, f.at, f.len))
+    part_read(false, 0)
 }
 
 // The formula of a field.

@@ -4,7 +4,6 @@ use tokens::limits::NO_PART;
 use tokens::split;
 use tokens::split::Span;
 use tokens::token;
-use tokens::token::NameForm;
 use tokens::token::Number;
 use tokens::token::TermForm;
 ghost use mathlib.Core.Path.{_≡_};
@@ -108,17 +107,14 @@ pub fn term_field(s: &[u8], l: Line, k: usize) -> TermRead
     term_at(s, f.at, f.len)
 }
 
-// The name of the len bytes at a place of the text.
+// The name of the len bytes at a place of the text: an operand that is no constant.
 pub fn name_at(s: &[u8], at: usize, len: usize) -> NameRead
     ensures { λ r. ⌜ nameAt (now (s .entry)) r ≡ readName (take len (drop at (now (s .entry)))) ⌝ }
 {
-    match token::name(split::part(s, at, len)) {
-        NameForm::Name(n, p) => NameRead::Name(NameRef {
-            at,
-            len: n,
-            part: p,
-        }),
-        NameForm::Bad => NameRead::Bad,
+    match term_at(s, at, len) {
+        TermRead::Name(n) => NameRead::Name(n),
+        TermRead::Byte(v) => NameRead::Bad,
+        TermRead::Bad => NameRead::Bad,
     }
 }
 

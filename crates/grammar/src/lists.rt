@@ -5,10 +5,9 @@ use crate::line::NameRead;
 use crate::line::NameRef;
 use crate::record;
 use tokens::limits::COLUMNS;
-use tokens::limits::MAP_PIECES;
-use tokens::limits::MOST_PIECES;
 use tokens::limits::MOST_SHARES;
 use tokens::token::Number;
+use tokens::word::Word;
 ghost use mathlib.Core.Path.{_≡_};
 ghost use Prim.Native.Nat.{_≤_};
 ghost use lib.ListN.{length};
@@ -28,7 +27,7 @@ pub fn read_columns(s: &[u8], l: Line) -> Columns
     ensures { λ r. ⌜ columnsIn r ≡ columnsOf (piecesIn (now (s .entry)) l) ⌝ }
 {
     let mut bytes = [0u8; COLUMNS];
-    if record::piece_count(s, l) != MAP_PIECES {
+    if !record::fits_word(s, l, Word::Map) {
         return Columns { ok: false, bytes };
     }
     let mut j = 0;
@@ -78,10 +77,7 @@ pub fn read_outputs(s: &[u8], l: Line) -> Outputs
     let none = no_outputs();
     let mut items = none.items;
     let n = record::piece_count(s, l);
-    if n < 2 {
-        return none;
-    }
-    if MOST_PIECES < n {
+    if !record::may_have(Word::Output, n) {
         return none;
     }
     let mut j = 0;

@@ -4,17 +4,16 @@ use crate::line::Line;
 use crate::line::NameRead;
 use crate::line::TermRead;
 use tokens::bytes::TAB;
-use tokens::limits::LET_PIECES;
-use tokens::limits::MAP_PIECES;
-use tokens::limits::MOST_PIECES;
+use tokens::limits::COLUMNS;
+use tokens::limits::MOST_SHARES;
 use tokens::split;
 use tokens::token::Number;
 use tokens::word::Word;
 ghost use mathlib.Core.Path.{_≡_};
 ghost use lib.ListN.{length};
-ghost use Rattle.tokens.specs.declared.word.Word.the-variants as word;
 ghost use Rattle.grammar.specs.Line.{Inside, piecesIn};
-ghost use Rattle.grammar.specs.Recorded.{Reads, MarkIs, TwoIs, OnlyIs};
+ghost use Rattle.grammar.specs.Record.{mayHave, assigned, operands, image};
+ghost use Rattle.grammar.specs.Recorded.{Reads, recordIn, formAt, binary};
 
 // An operation on two operands.
 pub enum Binary {
@@ -50,28 +49,32 @@ pub fn record(s: &[u8], l: Line, w: Word) -> Rec
     requires { ⌜ Inside (now s) l ⌝ }
     ensures { λ r. ⌜ Reads (now (s .entry)) l r w ⌝ }
 {
-    match w {
-        Word::Shares => shares_record(s, l),
-        Word::Map => map_record(s, l),
-        Word::Input => input_record(s, l),
-        Word::Origin => mark_record(s, l, Rec::Origin),
-        Word::Set => set_record(s, l),
-        Word::Xor => two_record(s, l, Binary::Xor),
-        Word::Mul => two_record(s, l, Binary::Mul),
-        Word::App => app_record(s, l),
-        Word::Let => let_record(s, l),
-        Word::Rand => {
-            let n = only_name(s, l);
-            Rec::Assign(n, FormRead::Rand)
-        }
-        Word::Result => {
-            let n = only_name(s, l);
-            Rec::Result(n)
-        }
-        Word::Masked => mark_record(s, l, Rec::Masked),
-        Word::Output => output_record(s, l),
-        Word::Unknown => Rec::Bad,
+    if fits_word(s, l, w) {
+        return match w {
+            Word::Shares => Rec::Shares(line::count_field(s, l, 1)),
+            Word::Map => Rec::Map(line::plain_field(s, l, 1), line::hex_field(s, l, 2)),
+            Word::Input => Rec::Input(line::plain_field(s, l, 1)),
+            Word::Origin => Rec::Origin,
+            Word::Set => assign(s, l, FormRead::Set(line::term_field(s, l, 2))),
+            Word::Xor => assign(s, l, two_form(s, l, Binary::Xor)),
+            Word::Mul => assign(s, l, two_form(s, l, Binary::Mul)),
+            Word::App => assign(s, l, app_form(s, l)),
+            Word::Let => Rec::Let(line::name_field(s, l, 1)),
+            Word::Rand => assign(s, l, FormRead::Rand),
+            Word::Result => Rec::Result(line::name_field(s, l, 1)),
+            Word::Masked => Rec::Masked,
+            Word::Output => Rec::Output,
+            Word::Unknown => Rec::Bad,
+        };
     }
+    Rec::Bad
+}
+
+// The line has a number of fields that the word may have.
+pub fn fits_word(s: &[u8], l: Line, w: Word) -> bool
+    ensures { λ r. ⌜ r ≡ mayHave w (length (piecesIn (now (s .entry)) l)) ⌝ }
+{
+    may_have(w, piece_count(s, l))
 }
 
 // How many pieces the line has, the word among them.
@@ -81,127 +84,55 @@ pub fn piece_count(s: &[u8], l: Line) -> usize
     split::count(split::part(s, l.from, l.len), TAB)
 }
 
-// `shares` and a count.
-pub fn shares_record(s: &[u8], l: Line) -> Rec
+// A line of this word may have n pieces, the word among them.
+pub fn may_have(w: Word, n: usize) -> bool
+    ensures { λ r. ⌜ r ≡ mayHave w n ⌝ }
+{
+    match w {
+        Word::Shares => n == 2,
+        Word::Map => n == 3 + COLUMNS,
+        Word::Input => n == 2,
+        Word::Origin => n == 1,
+        Word::Set => n == 3,
+        Word::Xor => n == 4,
+        Word::Mul => n == 4,
+        Word::App => n == 4,
+        Word::Let => n == 3,
+        Word::Rand => n == 2,
+        Word::Result => n == 2,
+        Word::Masked => n == 1,
+        Word::Output => {
+            if n < 2 {
+                return false;
+            }
+            n <= 1 + MOST_SHARES
+        }
+        Word::Unknown => false,
+    }
+}
+
+// A statement that gives the name of field 1.
+pub fn assign(s: &[u8], l: Line, f: FormRead) -> Rec
     requires { ⌜ Inside (now s) l ⌝ }
-    ensures { λ r. ⌜ Reads (now (s .entry)) l r word.Shares ⌝ }
+    ensures { λ r. ⌜ recordIn (now (s .entry)) (piecesIn (now (s .entry)) l) r
+        ≡ assigned (piecesIn (now (s .entry)) l) (formAt (now (s .entry)) f) ⌝ }
 {
-    if piece_count(s, l) != 2 {
-        return Rec::Bad;
-    }
-    let k = line::count_field(s, l, 1);
-    Rec::Shares(k)
+    Rec::Assign(line::name_field(s, l, 1), f)
 }
 
-// `map`, a name, a constant and eight columns.
-pub fn map_record(s: &[u8], l: Line) -> Rec
+// `xor` or `mul` on two operands.
+pub fn two_form(s: &[u8], l: Line, f: Binary) -> FormRead
     requires { ⌜ Inside (now s) l ⌝ }
-    ensures { λ r. ⌜ Reads (now (s .entry)) l r word.Map ⌝ }
+    ensures { λ r. ⌜ formAt (now (s .entry)) r
+        ≡ operands (binary f) (piecesIn (now (s .entry)) l) ⌝ }
 {
-    if piece_count(s, l) != MAP_PIECES {
-        return Rec::Bad;
-    }
-    let n = line::plain_field(s, l, 1);
-    let c = line::hex_field(s, l, 2);
-    Rec::Map(n, c)
+    FormRead::Two(f, line::term_field(s, l, 2), line::term_field(s, l, 3))
 }
 
-// `input` and a name.
-pub fn input_record(s: &[u8], l: Line) -> Rec
+// A map on an operand.
+pub fn app_form(s: &[u8], l: Line) -> FormRead
     requires { ⌜ Inside (now s) l ⌝ }
-    ensures { λ r. ⌜ Reads (now (s .entry)) l r word.Input ⌝ }
+    ensures { λ r. ⌜ formAt (now (s .entry)) r ≡ image (piecesIn (now (s .entry)) l) ⌝ }
 {
-    if piece_count(s, l) != 2 {
-        return Rec::Bad;
-    }
-    let n = line::plain_field(s, l, 1);
-    Rec::Input(n)
-}
-
-// `origin` or `masked`: the record m, where the line is the word alone.
-pub fn mark_record(s: &[u8], l: Line, m: Rec) -> Rec
-    ensures { λ r. ⌜ MarkIs (now (s .entry)) l m r ⌝ }
-{
-    if piece_count(s, l) != 1 {
-        return Rec::Bad;
-    }
-    m
-}
-
-// `set`, a name and an operand.
-pub fn set_record(s: &[u8], l: Line) -> Rec
-    requires { ⌜ Inside (now s) l ⌝ }
-    ensures { λ r. ⌜ Reads (now (s .entry)) l r word.Set ⌝ }
-{
-    if piece_count(s, l) != 3 {
-        return Rec::Bad;
-    }
-    let n = line::name_field(s, l, 1);
-    let a = line::term_field(s, l, 2);
-    Rec::Assign(n, FormRead::Set(a))
-}
-
-// `xor` or `mul`, a name and two operands.
-pub fn two_record(s: &[u8], l: Line, f: Binary) -> Rec
-    requires { ⌜ Inside (now s) l ⌝ }
-    ensures { λ r. ⌜ TwoIs (now (s .entry)) l f r ⌝ }
-{
-    if piece_count(s, l) != 4 {
-        return Rec::Bad;
-    }
-    let n = line::name_field(s, l, 1);
-    let a = line::term_field(s, l, 2);
-    let b = line::term_field(s, l, 3);
-    Rec::Assign(n, FormRead::Two(f, a, b))
-}
-
-// `app`, a name, a map and an operand.
-pub fn app_record(s: &[u8], l: Line) -> Rec
-    requires { ⌜ Inside (now s) l ⌝ }
-    ensures { λ r. ⌜ Reads (now (s .entry)) l r word.App ⌝ }
-{
-    if piece_count(s, l) != 4 {
-        return Rec::Bad;
-    }
-    let n = line::name_field(s, l, 1);
-    let f = line::plain_field(s, l, 2);
-    let a = line::term_field(s, l, 3);
-    Rec::Assign(n, FormRead::App(f, a))
-}
-
-// `let`, a name and a formula.
-pub fn let_record(s: &[u8], l: Line) -> Rec
-    requires { ⌜ Inside (now s) l ⌝ }
-    ensures { λ r. ⌜ Reads (now (s .entry)) l r word.Let ⌝ }
-{
-    if piece_count(s, l) != LET_PIECES {
-        return Rec::Bad;
-    }
-    let n = line::name_field(s, l, 1);
-    Rec::Let(n)
-}
-
-// `rand` or `result`: the name of a line with one field.
-pub fn only_name(s: &[u8], l: Line) -> NameRead
-    requires { ⌜ Inside (now s) l ⌝ }
-    ensures { λ r. ⌜ OnlyIs (now (s .entry)) l r ⌝ }
-{
-    if piece_count(s, l) != 2 {
-        return NameRead::Bad;
-    }
-    line::name_field(s, l, 1)
-}
-
-// `output` and 1 to 8 names.
-pub fn output_record(s: &[u8], l: Line) -> Rec
-    ensures { λ r. ⌜ Reads (now (s .entry)) l r word.Output ⌝ }
-{
-    let n = piece_count(s, l);
-    if n < 2 {
-        return Rec::Bad;
-    }
-    if MOST_PIECES < n {
-        return Rec::Bad;
-    }
-    Rec::Output
+    FormRead::App(line::plain_field(s, l, 2), line::term_field(s, l, 3))
 }

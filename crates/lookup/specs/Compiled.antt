@@ -6,21 +6,16 @@ use mathlib.Core.Option.{Option, none, some}
 use mathlib.Core.Bool.{Bool}
 use lib.ListN.{length, take, drop}
 use Rattle.rules.specs.declared.types.Operand.{Operand}
-use Rattle.rules.specs.declared.types.Operand.the-variants.{Place, Byte}
-use Rattle.rules.specs.declared.types.Op.{Op}
-use Rattle.rules.specs.declared.types.Op.the-variants.{Set, App}
 use Rattle.lookup.specs.declared.compile.Compiled.{Compiled}
 use Rattle.lookup.specs.declared.compile.Lookup.{Lookup}
 use Rattle.tokens.specs.Ascii.{isMark}
 use Rattle.tokens.specs.Split.{until}
 use Rattle.tokens.specs.Token.{Name, readName, readTerm}
-use Rattle.grammar.specs.declared.formula.Operation.{Operation}
-use Rattle.grammar.specs.declared.formula.Operation.the-variants as Operation
 use Rattle.grammar.specs.Formula.{Formula, Parsed, front, operations, parsed}
 use Rattle.rules.specs.Limits.{mostNames, mostStatements}
 use Rattle.rules.specs.Scope.{unknownFormula, valueOf, compiled}
 use Rattle.lookup.specs.Names.{namesIn, Within}
-use Rattle.lookup.specs.Found.{joined, termFound, mapFound}
+use Rattle.lookup.specs.Found.{termFound, asTerm}
 use Rattle.lookup.specs.Coded.{written}
 
 -- the names of the set and of the maps that a formula reads
@@ -38,22 +33,14 @@ compiledOf end unknown operand done = record { end = end; unknown = unknown; ope
 -- the map whose name stands at place `at` of f
 abbrev pub MapLooked : List Name → List ℕ → ℕ → ℕ → Compiled → Type 0
 MapLooked maps f at k r =
-    let g = mapFound maps (readName (front (drop at f))) in
-    r ≡ compiledOf (at + until isMark (drop at f)) (g .unknown) (Place (g .place)) k
+    let x = termFound maps (asTerm (readName (front (drop at f)))) in
+    r ≡ compiledOf (at + until isMark (drop at f)) (x .unknown) (x .operand) k
 
 -- the operand from place `at` of f to the mark
 abbrev pub TermLooked : List Name → List ℕ → ℕ → ℕ → ℕ → Compiled → Type 0
 TermLooked ms f at mark k r =
     let x = termFound ms (readTerm (take (mark - at) (drop at f))) in
     r ≡ compiledOf mark (x .unknown) (x .operand) k
-
--- an operation on two values, or on a map and a value
-abbrev pub operated : Operation → Operand → Operand → Op
-operated (Operation.Two b) x y = joined b x y
-operated Operation.Image (Place p) y = App p y
-operated Operation.Image (Byte b) y = Set y
-operated Operation.Unknown x y = Set y
-operated Operation.Operand x y = Set y
 
 -- the formula e at place `at` of f looked up, its operations written from entry k on; u stands behind it
 pub record CompileIs (ms maps : List Name) (base at k : ℕ) (f entry exit : List ℕ) (r : Compiled) (e : Formula)

@@ -6,24 +6,23 @@ use mathlib.Core.List.{List, map}
 use lib.ListN.{take}
 use mathlib.Core.Option.{Option, none, some}
 use Rattle.rules.specs.declared.types.Operand.{Operand}
-use Rattle.rules.specs.declared.types.Operand.the-variants.{Byte}
+use Rattle.rules.specs.declared.types.Operand.the-variants.{Place, Byte}
 use Rattle.rules.specs.declared.types.Op.{Op}
 use Rattle.rules.specs.declared.types.Op.the-variants as Op
 use Rattle.lookup.specs.declared.names.Names.{Names}
 use Rattle.lookup.specs.declared.scope.NameFound.{NameFound}
 use Rattle.lookup.specs.declared.scope.TermFound.{TermFound}
-use Rattle.lookup.specs.declared.scope.TwoFound.{TwoFound}
-use Rattle.lookup.specs.declared.scope.MapFound.{MapFound}
 use Rattle.lookup.specs.declared.scope.FormFound.{FormFound}
+use Rattle.grammar.specs.declared.formula.Operation.{Operation}
+use Rattle.grammar.specs.declared.formula.Operation.the-variants as Operation
 use Rattle.grammar.specs.declared.record.FormRead.{FormRead}
 use Rattle.grammar.specs.declared.record.Binary.{Binary}
 use Rattle.grammar.specs.declared.record.Binary.the-variants as Binary
-use Rattle.tokens.specs.Token.{Name, Term}
+use Rattle.tokens.specs.Token.{_>>=_, Name, Term, name}
 use Rattle.grammar.specs.Record.{Form}
 use Rattle.rules.specs.Scope.{given, placeOf, missing, unknownTerm, operandIn, unknownForm, opIn, drawn}
-use Rattle.grammar.specs.Line.{nameIn, nameAt, termAt}
+use Rattle.grammar.specs.Line.{nameIn, termAt}
 use Rattle.grammar.specs.declared.line.NameRef.{NameRef}
-use Rattle.grammar.specs.declared.line.NameRead.{NameRead}
 use Rattle.grammar.specs.declared.line.TermRead.{TermRead}
 use Rattle.tokens.specs.Ascii.{any}
 use Rattle.grammar.specs.Recorded.{formAt, namesRead}
@@ -52,29 +51,37 @@ termFound ms (some x) = record { ok = true; unknown = unknownTerm ms x; operand 
 abbrev pub TermIs : List ℕ → List ℕ → Names → TermRead → TermFound → Type 0
 TermIs s t ns a r = r ≡ termFound (namesIn s t ns) (termAt s a)
 
--- two operands
-unfoldable pub twoFound : TermFound → TermFound → TwoFound
-twoFound x y =
-    record { ok = x .ok && y .ok; unknown = x .unknown || y .unknown; left = x .operand; right = y .operand }
-
--- the whole outcome of looking two operands up in the set ns of the table t
-abbrev pub TwoIs : List ℕ → List ℕ → Names → TermRead → TermRead → TwoFound → Type 0
-TwoIs s t ns a b r =
-    let ms = namesIn s t ns in r ≡ twoFound (termFound ms (termAt s a)) (termFound ms (termAt s b))
-
 -- the operation on two operands, by places
 abbrev pub joined : Binary → Operand → Operand → Op
 joined Binary.Xor = Op.Xor
 joined Binary.Mul = Op.Mul
 
--- a map among the names ms
-unfoldable pub mapFound : List Name → Option Name → MapFound
-mapFound ms none = record { ok = false; unknown = false; place = 0 }
-mapFound ms (some x) = record { ok = true; unknown = missing ms x; place = placeOf x ms }
+-- an operation on two values, or on a map and a value
+abbrev pub operated : Operation → Operand → Operand → Op
+operated (Operation.Two b) x y = joined b x y
+operated Operation.Image (Place p) y = Op.App p y
+operated Operation.Image (Byte b) y = Op.Set y
+operated Operation.Unknown x y = Op.Set y
+operated Operation.Operand x y = Op.Set y
 
--- a map looked up in the set ns of the table t
-abbrev pub MapIs : List ℕ → List ℕ → Names → NameRead → MapFound → Type 0
-MapIs s t ns f r = r ≡ mapFound (namesIn s t ns) (nameAt s f)
+-- a map's name as an operand, whose value's place is the map's
+abbrev pub asTerm : Option Name → Option Term
+asTerm o = o >>= λ x. some (name x)
+
+-- an operation on two operands that were looked up
+unfoldable pub pairFound : Operation → TermFound → TermFound → FormFound
+pairFound o x y =
+    record {
+      ok = x .ok && y .ok;
+      unknown = x .unknown || y .unknown;
+      op = operated o (x .operand) (y .operand);
+      drawn = 0;
+    }
+
+-- an operation on a, looked up in the set ls of the table t, and on b, looked up in its set ns
+abbrev pub PairIs : List ℕ → List ℕ → Names → Names → Operation → TermRead → TermRead → FormFound → Type 0
+PairIs s t ls ns o a b r =
+    r ≡ pairFound o (termFound (namesIn s t ls) (termAt s a)) (termFound (namesIn s t ns) (termAt s b))
 
 -- whether it reads what is not given, what it is by places, and the variables that it draws
 abbrev pub Told : Type 0

@@ -17,7 +17,7 @@ ghost use lib.ListN.{length};
 ghost use Rattle.rules.specs.Limits.{mostStatements};
 ghost use Rattle.lookup.specs.Compiled.{Looks, Compilable};
 ghost use Rattle.lookup.specs.Coded.{operandCode, putOp, putCodes};
-ghost use Rattle.lookup.specs.Compiled.{compiledOf, operated, CompilesAt, MapLookedAt};
+ghost use Rattle.lookup.specs.Compiled.{compiledOf, CompilesAt, MapLookedAt};
 ghost use Rattle.lookup.specs.Compiled.{TermLookedAt};
 
 // The numbers of the operations of a formula, three for each.
@@ -73,7 +73,7 @@ pub fn compile(
     let y = compile(s, t, w, f, first.end + 1, first.done, out);
     let x = first.operand;
     let z = y.operand;
-    let op = operate(o, x, z);
+    let op = scope::operate(o, x, z);
     put_op(out, y.done, op);
     let unknown = flags::one_of(first.unknown, y.unknown);
     made(
@@ -104,8 +104,9 @@ pub(crate) fn find_map(s: &[u8], t: &Table, w: Lookup, f: &[u8], at: usize, done
     let mark = bytes::find_mark(f, at);
     let n = line::name_at(s, w.from + at, mark - at);
     let maps = w.maps;
-    let g = scope::find_map(s, t, maps, n);
-    made(mark, g.unknown, Operand::Place(g.place), done)
+    let x = scope::find_term(s, t, maps, scope::term_of(n));
+    let operand = x.operand;
+    made(mark, x.unknown, operand, done)
 }
 
 // Looks up the operand from place `at` of the field to the mark.
@@ -127,21 +128,6 @@ pub(crate) fn find_operand(
     let x = scope::find_term(s, t, names, a);
     let operand = x.operand;
     made(mark, x.unknown, operand, done)
-}
-
-// An operation on two values, or on a map and a value.
-pub(crate) fn operate(o: Operation, x: Operand, y: Operand) -> Op
-    ensures { λ r. ⌜ r ≡ operated o x y ⌝ }
-{
-    match o {
-        Operation::Two(b) => scope::join(b, x, y),
-        Operation::Image => match x {
-            Operand::Place(p) => Op::App(p, y),
-            Operand::Byte(b) => Op::Set(y),
-        },
-        Operation::Unknown => Op::Set(y),
-        Operation::Operand => Op::Set(y),
-    }
 }
 
 // An operand as a number.

@@ -3,6 +3,7 @@ use crate::flags;
 use crate::names;
 use crate::names::Names;
 use crate::names::Table;
+use grammar::formula::Operation;
 use grammar::line::NameRead;
 use grammar::line::NameRef;
 use grammar::line::TermRead;
@@ -11,11 +12,12 @@ use grammar::record::FormRead;
 use rules::types::Op;
 use rules::types::Operand;
 ghost use mathlib.Core.Path.{_≡_};
+ghost use mathlib.Core.List.{List};
 ghost use Prim.Native.Nat.{ℕ};
-ghost use Rattle.grammar.specs.declared.record.FormRead.the-variants as form;
-ghost use Rattle.lookup.specs.declared.names.Names as sets;
+ghost use Rattle.grammar.specs.Line.{nameAt, termAt};
 ghost use Rattle.lookup.specs.Names.{Within};
-ghost use Rattle.lookup.specs.Found.{GivenIs, NameIs, TermIs, MapIs, TwoIs, FormIs, joined};
+ghost use Rattle.lookup.specs.Found.{GivenIs, NameIs, TermIs, PairIs, FormIs};
+ghost use Rattle.lookup.specs.Found.{joined, operated, asTerm};
 
 // A name by its place, and whether it is not given.
 pub struct NameFound {
@@ -28,21 +30,6 @@ pub struct TermFound {
     pub ok: bool,
     pub unknown: bool,
     pub operand: Operand,
-}
-
-// A map by its place, and whether its name is not given; not ok where the field is no name.
-pub struct MapFound {
-    pub ok: bool,
-    pub unknown: bool,
-    pub place: usize,
-}
-
-// Two operands.
-pub struct TwoFound {
-    pub ok: bool,
-    pub unknown: bool,
-    pub left: Operand,
-    pub right: Operand,
 }
 
 // What a statement computes by places, whether it reads what is not given, and the variables
@@ -103,94 +90,40 @@ pub(crate) fn find_term(s: &[u8], t: &Table, set: Names, a: TermRead) -> TermFou
     }
 }
 
-// Looks up a map.
-pub(crate) fn find_map(s: &[u8], t: &Table, set: Names, f: NameRead) -> MapFound
-    requires { ⌜ Within set ⌝ }
-    ensures { λ r. ⌜ MapIs (now (s .entry)) (now (t .entry)) set f r ⌝ }
+// A map's name as an operand.
+pub(crate) fn term_of(f: NameRead) -> TermRead
+    ensures { λ r. ⌜ ((s : List ℕ) → termAt s r ≡ asTerm (nameAt s f)) ⌝ }
 {
     match f {
-        NameRead::Name(n) => {
-            let x = find_name(s, t, set, n);
-            MapFound {
-                ok: true,
-                unknown: x.unknown,
-                place: x.place,
-            }
-        }
-        NameRead::Bad => MapFound {
-            ok: false,
-            unknown: false,
-            place: 0,
-        },
+        NameRead::Name(n) => TermRead::Name(n),
+        NameRead::Bad => TermRead::Bad,
     }
 }
 
-// Looks up two operands.
-pub(crate) fn find_two(s: &[u8], t: &Table, set: Names, a: TermRead, b: TermRead) -> TwoFound
-    requires { ⌜ Within set ⌝ }
-    ensures { λ r. ⌜ TwoIs (now (s .entry)) (now (t .entry)) set a b r ⌝ }
+// Looks up an operation on two operands, the first in a set of its own.
+pub(crate) fn find_pair(
+    s: &[u8],
+    t: &Table,
+    first: Names,
+    set: Names,
+    o: Operation,
+    a: TermRead,
+    b: TermRead,
+) -> FormFound
+    requires { ⌜ Within first × Within set ⌝ }
+    ensures { λ r. ⌜ PairIs (now (s .entry)) (now (t .entry)) first set o a b r ⌝ }
 {
-    let x = find_term(s, t, set, a);
+    let x = find_term(s, t, first, a);
     let y = find_term(s, t, set, b);
     let ok = flags::both(x.ok, y.ok);
     let unknown = flags::one_of(x.unknown, y.unknown);
     let left = x.operand;
     let right = y.operand;
-    TwoFound {
+    let op = operate(o, left, right);
+    FormFound {
         ok,
         unknown,
-        left,
-        right,
-    }
-}
-
-// Looks up the operands of `xor` or `mul`.
-pub(crate) fn find_pair(
-    s: &[u8],
-    t: &Table,
-    set: Names,
-    g: Binary,
-    a: TermRead,
-    b: TermRead,
-) -> FormFound
-    requires { ⌜ Within set ⌝ }
-    ensures { λ r. ⌜ ((maps : sets.Names) (v : ℕ) →
-        FormIs (now (s .entry)) (now (t .entry)) set maps v (form.Two g a b) r) ⌝ }
-{
-    let x = find_two(s, t, set, a, b);
-    let left = x.left;
-    let right = x.right;
-    let op = join(g, left, right);
-    FormFound {
-        ok: x.ok,
-        unknown: x.unknown,
         op,
-        drawn: 0,
-    }
-}
-
-// Looks up the map and the operand of `app`.
-pub(crate) fn find_app(
-    s: &[u8],
-    t: &Table,
-    set: Names,
-    maps: Names,
-    g: NameRead,
-    a: TermRead,
-) -> FormFound
-    requires { ⌜ Within set × Within maps ⌝ }
-    ensures { λ r. ⌜ ((v : ℕ) →
-        FormIs (now (s .entry)) (now (t .entry)) set maps v (form.App g a) r) ⌝ }
-{
-    let x = find_map(s, t, maps, g);
-    let y = find_term(s, t, set, a);
-    let ok = flags::both(x.ok, y.ok);
-    let unknown = flags::one_of(x.unknown, y.unknown);
-    let operand = y.operand;
-    FormFound {
-        ok,
-        unknown,
-        op: Op::App(x.place, operand),
         drawn: 0,
     }
 }
@@ -211,14 +144,29 @@ pub fn find_form(s: &[u8], t: &Table, set: Names, maps: Names, v: usize, f: Form
                 drawn: 0,
             }
         }
-        FormRead::Two(g, a, b) => find_pair(s, t, set, g, a, b),
-        FormRead::App(g, a) => find_app(s, t, set, maps, g, a),
+        FormRead::Two(g, a, b) => find_pair(s, t, set, set, Operation::Two(g), a, b),
+        FormRead::App(g, a) => find_pair(s, t, maps, set, Operation::Image, term_of(g), a),
         FormRead::Rand => FormFound {
             ok: true,
             unknown: false,
             op: Op::Rand(v),
             drawn: 1,
         },
+    }
+}
+
+// An operation on two values, or on a map and a value.
+pub(crate) fn operate(o: Operation, x: Operand, y: Operand) -> Op
+    ensures { λ r. ⌜ r ≡ operated o x y ⌝ }
+{
+    match o {
+        Operation::Two(b) => join(b, x, y),
+        Operation::Image => match x {
+            Operand::Place(p) => Op::App(p, y),
+            Operand::Byte(b) => Op::Set(y),
+        },
+        Operation::Unknown => Op::Set(y),
+        Operation::Operand => Op::Set(y),
     }
 }
 

@@ -5,13 +5,12 @@ ghost use Prim.Native.Nat.{_≤_};
 ghost use mathlib.Core.List.{_++_};
 ghost use lib.ListN.{length, drop};
 ghost use lib.Seq.{paste};
-ghost use Rattle.outside.specs.Numbers.{verdictNumber, reportNumbers, runNumbers, mapNumbers};
+ghost use Rattle.outside.specs.Numbers.{verdictNumber, reportNumbers, mapNumbers};
 ghost use Rattle.outside.specs.Numbers.{JudgeTold, RunTold, MapTold};
 use judge::judge;
 use verdict::coefficients::coefficients;
 use verdict::report::MapReport;
 use verdict::report::Report;
-use verdict::report::RunReport;
 use verdict::report::Verdict;
 use verdict::run::run;
 
@@ -48,7 +47,10 @@ pub extern "C" fn bench_run(text: &[u8], bytes: &[u8], numbers: &mut [u64]) -> u
         return 0;
     }
     let report = run(text, bytes);
-    tell_run(report, numbers);
+    numbers[0] = report.original as u64;
+    numbers[1] = report.joined as u64;
+    numbers[2] = report.refusal as u64;
+    numbers[3] = report.line as u64;
     1
 }
 
@@ -80,18 +82,6 @@ fn tell_report(report: Report, numbers: &mut [u64])
     numbers[3] = report.terms as u64;
     numbers[4] = report.tried as u64;
     numbers[5] = report.idle as u64;
-}
-
-// Puts the four numbers of a run at the front.
-fn tell_run(report: RunReport, numbers: &mut [u64])
-    requires { ⌜ 4 ≤ length (now numbers) ⌝ }
-    ensures { λ _. ⌜ now (numbers .exit) ≡
-        runNumbers report ++ drop 4 (now (numbers .entry)) ⌝ }
-{
-    numbers[0] = report.original as u64;
-    numbers[1] = report.joined as u64;
-    numbers[2] = report.refusal as u64;
-    numbers[3] = report.line as u64;
 }
 
 // Puts the ten numbers of a map at the front.

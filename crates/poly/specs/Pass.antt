@@ -1,5 +1,5 @@
--- A normal form in one pass, of a list whose powers never fall: neighbours with the same powers are joined. Assumes
--- nothing.
+-- A normal form in one pass, of a list whose powers never fall: neighbours with the same powers are joined.
+-- Assumes nothing.
 use Prim.Native.Nat.{ℕ, Ordering, Ordering·lt, Ordering·eq, Ordering·gt}
 use mathlib.Core.List.{List, [], _∷_}
 use Rattle.field.specs.Laws.{Ops}

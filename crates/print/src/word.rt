@@ -1,7 +1,7 @@
 // A verdict's word, at the front of a lent buffer.
 ghost use mathlib.Core.Path.{_≡_};
 ghost use Prim.Native.Nat.{_+_, _<_, _≤_};
-ghost use lib.ListN.{length};
+ghost use lib.ListN.{length, take};
 ghost use Rattle.verdict.specs.Print.{word};
 ghost use Rattle.print.specs.Line.{Put};
 use crate::put::put_byte;
@@ -20,17 +20,25 @@ pub fn word_size(verdict: Verdict) -> usize
     }
 }
 
+// The letters of a verdict's word, with zeros behind them.
+fn letters_of(verdict: Verdict) -> [u8; 7]
+    ensures { λ r. ⌜ take (length (word verdict)) r ≡ word verdict ⌝ }
+{
+    match verdict {
+        Verdict::Equal => *b"equal\0\0",
+        Verdict::Differs => *b"differs",
+        Verdict::Unknown => *b"unknown",
+        Verdict::Refused => *b"refused",
+    }
+}
+
 // Puts a verdict's word at the front of out, which has room for it; answers the place behind it.
 pub fn put_word(verdict: Verdict, out: &mut [u8]) -> usize
     requires { ⌜ length (word verdict) ≤ length (now out) ⌝ }
     ensures { λ r. ⌜ Put (now (out .entry)) 0 (word verdict) r (now (out .exit)) ⌝ }
 {
-    match verdict {
-        Verdict::Equal => put_bytes(b"equal", out, 0),
-        Verdict::Differs => put_bytes(b"differs", out, 0),
-        Verdict::Unknown => put_bytes(b"unknown", out, 0),
-        Verdict::Refused => put_bytes(b"refused", out, 0),
-    }
+    let letters = letters_of(verdict);
+    put_bytes(&letters[0..word_size(verdict)], out, 0)
 }
 
 // Puts bytes at a place of out with room for them, and answers the place behind them.

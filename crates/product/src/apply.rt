@@ -1,13 +1,10 @@
 // A map applied to a polynomial p: its constant, and its coefficients times p, p², p⁴, .. p^128.
+use crate::product::product_row;
 use crate::product::term_product;
-use buffer::insert::insert_term;
 use buffer::term::write_at;
-use field::times;
-ghost use mathlib.Core.Path.{_≡_};
-ghost use mathlib.Core.List.{[], _∷_};
+ghost use mathlib.Core.List.{[]};
 ghost use Prim.Native.Nat.{_*_, _<_, _≤_};
-ghost use lib.ListN.{length, getD, drop};
-ghost use Rattle.field.specs.Field.{times};
+ghost use lib.ListN.{length, getD};
 ghost use Rattle.poly.specs.Size.{oneIf};
 ghost use Rattle.product.specs.Apply.{Constant, Squared, ScaledAsked, ScaledAdded};
 ghost use Rattle.product.specs.Apply.{ApplyAsked, Applied};
@@ -72,8 +69,8 @@ fn write_constant(b: &mut [u8], c: u8, w: usize) -> usize
     1
 }
 
-// l times each of the k terms of src inserted among the r sorted terms of b, the first first, and
-// nothing where l is zero; answers how many there are now. t is room for a term.
+// l times each of the k terms of src inserted among the r sorted terms of b, and nothing where l is
+// zero; answers how many there are now. t is room for a term.
 fn scaled_row(m: u8, b: &mut [u8], r: usize, l: u8, src: &[u8], k: usize, t: &mut [u8]) -> usize
     requires { ⌜ ScaledAsked (now b) r l (now src) k (now t) ⌝ }
     ensures { λ n. ⌜ ScaledAdded m (now (b .entry)) (now (b .exit)) r l
@@ -82,28 +79,8 @@ fn scaled_row(m: u8, b: &mut [u8], r: usize, l: u8, src: &[u8], k: usize, t: &mu
     if l == 0 {
         return r;
     }
-    let w = t.len();
-    let mut n = r;
-    let mut j = 0;
-    let mut at = 0;
-    // l times the terms before j are inserted
-    while j < k {
-        scaled_term(m, l, &src[at..at + w], t);
-        n = insert_term(b, n, t);
-        j += 1;
-        at += w;
-    }
-    n
-}
-
-// l times the term p, written to t.
-fn scaled_term(m: u8, l: u8, p: &[u8], t: &mut [u8])
-    requires { ⌜ (0 < length (now t)) × (length (now p) ≡ length (now t)) ⌝ }
-    ensures { λ _. ⌜ now (t .exit)
-        ≡ times m l (getD (now (p .entry)) 0 0) ∷ drop 1 (now (p .entry)) ⌝ }
-{
-    write_at(t, 0, p);
-    t[0] = times(m, l, p[0]);
+    let f = [l];
+    product_row(m, b, r, &f, src, k, t)
 }
 
 // Each of the k terms of src squared in its place; t is room for a term.

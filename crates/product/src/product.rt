@@ -1,10 +1,11 @@
 // The product of two polynomials, of a term and a polynomial, and of two terms.
 use crate::merge::merge_terms;
 use buffer::insert::insert_term;
+use buffer::term::write_at;
 use field::times;
 ghost use mathlib.Core.Path.{_≡_};
 ghost use Prim.Native.Nat.{_+_, _<_, _≤_};
-ghost use lib.ListN.{length, getD, drop};
+ghost use lib.ListN.{length};
 ghost use Rattle.poly.specs.Poly.{reduce};
 ghost use Rattle.product.specs.Product.{termTimes, RowAsked, RowAdded, ProductAsked, Product};
 ghost use Rattle.product.specs.Product.{SumAsked, SumAdded, ProductSummed};
@@ -47,9 +48,8 @@ fn product_rows(m: u8, b: &mut [u8], p: &[u8], i: usize, q: &[u8], k: usize, t: 
 // The products of the term f and each of the k terms of src added to the r sorted terms of b, in
 // pieces, the last first; answers how many there are now. The rest of b is room to work in.
 fn add_row(m: u8, b: &mut [u8], r: usize, f: &[u8], src: &[u8], k: usize, t: &mut [u8]) -> usize
-    requires { ⌜ (length (now f) ≡ length (now t)) × SumAsked (now b) r (now src) k (now t) ⌝ }
-    ensures { λ n. ⌜ SumAdded m (now (b .entry)) (now (b .exit)) r
-        (getD (now (f .entry)) 0 0) (drop 1 (now (f .entry)))
+    requires { ⌜ SumAsked (now b) r (now f) (now src) k (length (now t)) ⌝ }
+    ensures { λ n. ⌜ SumAdded m (now (b .entry)) (now (b .exit)) r (now (f .entry))
         (now (src .entry)) k (length (now (t .entry))) n ⌝ }
 {
     let w = t.len();
@@ -86,9 +86,8 @@ fn piece_size(left: usize, j: usize, w: usize) -> usize
 // a row of their own behind room for c terms, and merged; or inserted, where there is no room for
 // that. Answers how many there are now.
 fn add_piece(m: u8, b: &mut [u8], n: usize, f: &[u8], src: &[u8], c: usize, t: &mut [u8]) -> usize
-    requires { ⌜ (length (now f) ≡ length (now t)) × SumAsked (now b) n (now src) c (now t) ⌝ }
-    ensures { λ r. ⌜ SumAdded m (now (b .entry)) (now (b .exit)) n
-        (getD (now (f .entry)) 0 0) (drop 1 (now (f .entry)))
+    requires { ⌜ SumAsked (now b) n (now f) (now src) c (length (now t)) ⌝ }
+    ensures { λ r. ⌜ SumAdded m (now (b .entry)) (now (b .exit)) n (now (f .entry))
         (now (src .entry)) c (length (now (t .entry))) r ⌝ }
 {
     let w = t.len();
@@ -102,11 +101,18 @@ fn add_piece(m: u8, b: &mut [u8], n: usize, f: &[u8], src: &[u8], c: usize, t: &
 }
 
 // The products of the term f and each of the k terms of src inserted among the r sorted terms of b,
-// the first first; answers how many there are now. t is room for a term.
-fn product_row(m: u8, b: &mut [u8], r: usize, f: &[u8], src: &[u8], k: usize, t: &mut [u8]) -> usize
-    requires { ⌜ (length (now f) ≡ length (now t)) × RowAsked (now b) r (now src) k (now t) ⌝ }
-    ensures { λ n. ⌜ RowAdded m (now (b .entry)) (now (b .exit)) r
-        (getD (now (f .entry)) 0 0) (drop 1 (now (f .entry)))
+// the first first; answers how many there are now. f may lack powers, and t is room for a term.
+pub(crate) fn product_row(
+    m: u8,
+    b: &mut [u8],
+    r: usize,
+    f: &[u8],
+    src: &[u8],
+    k: usize,
+    t: &mut [u8],
+) -> usize
+    requires { ⌜ RowAsked (now b) r (now f) (now src) k (length (now t)) ⌝ }
+    ensures { λ n. ⌜ RowAdded m (now (b .entry)) (now (b .exit)) r (now (f .entry))
         (now (src .entry)) k (length (now (t .entry))) n ⌝ }
 {
     let w = t.len();
@@ -123,19 +129,21 @@ fn product_row(m: u8, b: &mut [u8], r: usize, f: &[u8], src: &[u8], k: usize, t:
     n
 }
 
-// The product of the terms p and q, written to t; the three have one length.
+// The product of the terms p and q, written to t, which is as long as q; p may lack powers, which
+// are then zero.
 pub(crate) fn term_product(m: u8, p: &[u8], q: &[u8], t: &mut [u8])
-    requires { ⌜ (0 < length (now t)) × (length (now p) ≡ length (now t))
+    requires { ⌜ (0 < length (now p)) × (length (now p) ≤ length (now t))
         × (length (now q) ≡ length (now t)) ⌝ }
     ensures { λ _. ⌜ now (t .exit) ≡ termTimes m (now (p .entry)) (now (q .entry)) ⌝ }
 {
     t[0] = times(m, p[0], q[0]);
     let mut j = 1;
     // the coefficient and the powers below j are written
-    while j < t.len() {
+    while j < p.len() {
         t[j] = power_sum(p[j], q[j]);
         j += 1;
     }
+    write_at(t, j, &q[j..]);
 }
 
 // The power of a variable in a product: above 255 it loses 255.

@@ -1,4 +1,4 @@
--- The line ahead of a cursor.
+-- The line ahead of a cursor. Assumes nothing.
 use Prim.Native.Nat.{ℕ, _+_, _-_}
 use mathlib.Core.Bool.{cond}
 use mathlib.Core.List.{List}

@@ -10,7 +10,6 @@ use grammar::record::Rec;
 use tokens::limits::MOST_DEPTH;
 use tokens::token::Number;
 ghost use mathlib.Core.Path.{_≡_};
-ghost use mathlib.Core.Bool.{_&&_};
 ghost use Rattle.grammar.specs.Line.{Inside, piecesIn};
 ghost use Rattle.tokens.specs.Token.{isSome};
 ghost use Rattle.grammar.specs.Recorded.{columnsOf, formulaOf, namesOf};
@@ -25,11 +24,11 @@ pub fn has_fields(s: &[u8], l: Line, r: Rec) -> bool
     match r {
         Rec::Bad => false,
         Rec::Shares(k) => has_number(k),
-        Rec::Map(n, c) => both(has_name(n), both(has_number(c), has_columns(s, l))),
+        Rec::Map(n, c) => has_name(n) & (has_number(c) & has_columns(s, l)),
         Rec::Input(n) => has_name(n),
         Rec::Origin => true,
-        Rec::Assign(n, f) => both(has_name(n), has_form(f)),
-        Rec::Let(n) => both(has_name(n), has_formula(s, l)),
+        Rec::Assign(n, f) => has_name(n) & has_form(f),
+        Rec::Let(n) => has_name(n) & has_formula(s, l),
         Rec::Result(n) => has_name(n),
         Rec::Masked => true,
         Rec::Output => has_outputs(s, l),
@@ -69,16 +68,8 @@ pub fn nests(s: &[u8], l: Line, r: Rec) -> bool
     ensures { λ b. ⌜ b ≡ nestsIn (piecesIn (now (s .entry)) l) r ⌝ }
 {
     match r {
-        Rec::Bad => false,
-        Rec::Shares(k) => false,
-        Rec::Map(n, c) => false,
-        Rec::Input(n) => false,
-        Rec::Origin => false,
-        Rec::Assign(n, f) => false,
         Rec::Let(n) => too_deep(s, l),
-        Rec::Result(n) => false,
-        Rec::Masked => false,
-        Rec::Output => false,
+        _ => false,
     }
 }
 
@@ -100,8 +91,8 @@ pub fn has_form(f: FormRead) -> bool
 {
     match f {
         FormRead::Set(a) => has_term(a),
-        FormRead::Two(o, a, b) => both(has_term(a), has_term(b)),
-        FormRead::App(g, a) => both(has_name(g), has_term(a)),
+        FormRead::Two(o, a, b) => has_term(a) & has_term(b),
+        FormRead::App(g, a) => has_name(g) & has_term(a),
         FormRead::Rand => true,
     }
 }
@@ -135,14 +126,4 @@ pub fn has_number(n: Number) -> bool
         Number::Value(v) => true,
         Number::Bad => false,
     }
-}
-
-// Both hold.
-pub fn both(a: bool, b: bool) -> bool
-    ensures { λ r. ⌜ r ≡ a && b ⌝ }
-{
-    if a {
-        return b;
-    }
-    false
 }

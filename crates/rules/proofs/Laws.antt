@@ -2,9 +2,9 @@ pub mod Listing
 pub mod Keeping
 pub mod Reads
 pub mod Letting
+pub mod Stating
 pub mod Formed
 pub mod Placed
-pub mod LetPlaced
 pub mod Ranged
 pub mod Limits
 pub mod Refusing

@@ -19,7 +19,7 @@ use Rattle.values.specs.declared.source.Scope.{Scope}
 use Rattle.survey.specs.declared.walk.Walk.{Walk}
 use Rattle.values.specs.Shelf.{stored, Sound}
 use Rattle.values.specs.Source.{variablesOf, reach}
-use Rattle.values.specs.Raw.{mostStanding, rawIn, Tabled, Mapped, SizeAsked}
+use Rattle.values.specs.Raw.{mostStanding, rawIn, Tabled, Inside, SizeAsked}
 use Rattle.values.specs.Value.{Workable}
 
 -- the line of the first statement at which what stands and the raw size exceed the limit; vs are the values so far, xs
@@ -64,7 +64,7 @@ pub record WalkAsked (m : ℕ) (lists : List (List ℕ)) (constants : List ℕ) 
   pub ordered : from ≤ to
   pub inside : to ≤ 256
   pub count : d .count + (to - from) ≤ 256
-  pub mapped : (i : ℕ) → i < to → Mapped (getD statements i blank .op)
+  pub reads : (i : ℕ) → from ≤ i → i < to → Inside (s .drawn) (getD statements i blank .op)
   pub bounded : most ≤ mostStanding
   pub top : d .top ≤ most
   pub room : most * w ≤ length left

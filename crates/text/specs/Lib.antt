@@ -1,9 +1,3 @@
 pub mod Routine
-pub mod Lets
-pub mod Given
-pub mod Known
-pub mod Added
-pub mod Stored
-pub mod Taken
 pub mod Reading
 pub mod From

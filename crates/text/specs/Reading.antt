@@ -10,7 +10,7 @@ use Rattle.text.specs.declared.read.Reading as answer
 use Rattle.rules.specs.Limits.{mostMaps, mostInputs, mostVariables, mostStatements}
 use Rattle.rules.specs.Read.{Reading, refused, accepted, routine}
 use Rattle.rules.specs.Order.{atEnd}
-use Rattle.text.specs.Known.{Kept, stateIn}
+use Rattle.lines.specs.Known.{Kept, stateIn}
 use Rattle.grammar.specs.declared.line.Line.{Line}
 use Rattle.tokens.specs.Ascii.{all, allowed}
 use Rattle.text.specs.Routine.{routineOf, Counted}

@@ -1,22 +1,14 @@
 // A text: the routine that it holds, or its refusal.
-use crate::known;
-use crate::known::Known;
-use crate::order;
-use crate::order::AT_END;
 use crate::routine;
 use crate::routine::Routine;
-use crate::step;
-use crate::step::Put;
-use crate::step::Step;
 use crate::store;
-use crate::take;
-use grammar::line;
 use grammar::line::Line;
-use grammar::record;
+use lines::known;
+use lines::known::Known;
+use lines::line::take_line;
+use lines::order::AT_END;
 use lookup::compile::CODES;
-use lookup::compile::Codes;
 use lookup::names;
-use lookup::names::Table;
 use reader::cursor;
 use reader::cursor::Ahead;
 use reader::cursor::Cursor;
@@ -30,18 +22,13 @@ use rules::types::AffineMap;
 use rules::types::Statement;
 use tokens::bytes;
 use tokens::split;
-use tokens::word;
-use tokens::word::Word;
 ghost use mathlib.Core.Path.{_≡_};
 ghost use mathlib.Core.List.{List};
 ghost use Prim.Native.Nat.{ℕ, _≤_};
-ghost use lib.ListN.{length};
-ghost use Rattle.grammar.specs.Line.{Inside};
 ghost use Rattle.rules.specs.Limits.{mostBytes};
 ghost use Rattle.rules.specs.Read.{readText, refused};
 ghost use Rattle.text.specs.From.{readFrom, ReadsOn, Stands, LinesAre};
-ghost use Rattle.text.specs.Known.{Sound, arrays, kept};
-ghost use Rattle.text.specs.Taken.{RecordLeads, LineLeads};
+ghost use Rattle.lines.specs.Known.{Sound, arrays, kept};
 ghost use Rattle.text.specs.Reading.{ReadingIs, EndIs, UnendedIs};
 
 // A refusal's number and line, both 0 where there is none; then the routine is the one that the
@@ -50,52 +37,6 @@ pub struct Reading {
     pub refusal: u8,
     pub line: usize,
     pub routine: Routine,
-}
-
-// The record of line n, its word known.
-pub(crate) fn take_record(
-    s: &[u8],
-    t: &Table,
-    k: Known,
-    l: Line,
-    n: usize,
-    w: Word,
-    codes: &mut Codes,
-) -> Step
-    requires { ⌜ (Inside (now s) l) × (Sound k) ⌝ }
-    ensures { λ r. ⌜ RecordLeads (now (s .entry)) (now (t .entry)) (now (codes .exit)) k l n w r
-        × (length (now (codes .exit)) ≡ length (now (codes .entry))) ⌝ }
-{
-    let r = record::record(s, l, w);
-    let stands = order::may_stand(w, k.stage);
-    let step = take::take_any(s, t, k, l, n, r, stands, codes);
-    if step.refusal != 0 {
-        return step;
-    }
-    let grown = step.known;
-    let known = known::staged(grown, w);
-    let put = step.put;
-    let map = step.map;
-    Step {
-        refusal: 0,
-        known,
-        put,
-        map,
-    }
-}
-
-// Line n, which its line feed ends.
-pub(crate) fn take_line(s: &[u8], t: &Table, k: Known, l: Line, n: usize, codes: &mut Codes) -> Step
-    requires { ⌜ (Inside (now s) l) × (Sound k) ⌝ }
-    ensures { λ r. ⌜ LineLeads (now (s .entry)) (now (t .entry)) (now (codes .exit)) k l n r
-        × (length (now (codes .exit)) ≡ length (now (codes .entry))) ⌝ }
-{
-    if bytes::all_allowed(split::part(s, l.from, l.len)) {
-        let f = line::field(s, l, 0);
-        let w = word::word_of(split::part(s, f.at, f.len));
-        return take_record(s, t, k, l, n, w, codes);
-    }
-    step::make(3, k, Put::Nothing)
 }
 
 // A refusal at a line.
@@ -204,15 +145,15 @@ pub(crate) fn read_lines(s: &[u8], from: Cursor) -> Reading
                 }
                 let put = step.put;
                 let at = k.origin + k.masked;
-                let count = step::count_given(put);
+                let count = store::count_given(put);
                 let mut i = 0;
                 while i < count {
-                    let st = step::statement_given(put, &codes, i);
+                    let st = store::statement_given(put, &codes, i);
                     statements[at + i] = st;
                     i += 1;
                 }
                 let map = step.map;
-                let all = step::maps_after(maps, k, put, map);
+                let all = store::maps_after(maps, k, put, map);
                 maps = all;
                 store::store_names(&mut table, k, put);
                 k = step.known;

@@ -1,31 +1,24 @@
 -- The word that a line begins with. Assumes nothing.
-use mathlib.Core.Bool.{cond}
-use mathlib.Core.List.{List}
 use Prim.Native.Nat.{ℕ}
+use mathlib.Core.Bool.{cond}
+use mathlib.Core.List.{List, [], _∷_}
 use Rattle.tokens.specs.declared.word.Word.{Word}
-use Rattle.tokens.specs.declared.word.Word.the-variants.{Shares, Map, Input, Origin, Set, Xor, Mul, App, Let}
-use Rattle.tokens.specs.declared.word.Word.the-variants.{Rand, Result, Masked, Output, Unknown}
+use Rattle.tokens.specs.declared.word.Word.the-variants.{Set, Xor, Mul, App, Let, Rand, Shares, Map, Input}
+use Rattle.tokens.specs.declared.word.Word.the-variants.{Origin, Result, Masked, Output, Unknown}
 use Rattle.tokens.specs.Ascii.{ascii, sameBytes}
 
--- the word of a statement that the bytes spell
-unfoldable pub statementWord : List ℕ → Word
-statementWord w =
-    cond (sameBytes w (ascii "set")) Set
-    (cond (sameBytes w (ascii "xor")) Xor
-    (cond (sameBytes w (ascii "mul")) Mul
-    (cond (sameBytes w (ascii "app")) App
-    (cond (sameBytes w (ascii "let")) Let
-    (cond (sameBytes w (ascii "rand")) Rand
-    Unknown)))))
+-- what stands beside the first spelling that has the bytes of w, or `other` where none has
+unfoldable pub spelt : {A : Type 0} → A → List ℕ → List (List ℕ × A) → A
+spelt other w [] = other
+spelt other w (p ∷ ps) = let rest = spelt other w ps in cond (sameBytes w (p .0)) (p .1) rest
+
+-- the words of records, each beside its spelling
+unfoldable pub words : List (List ℕ × Word)
+words =
+    (ascii "xor", Xor) ∷ (ascii "mul", Mul) ∷ (ascii "set", Set) ∷ (ascii "let", Let) ∷ (ascii "app", App)
+    ∷ (ascii "rand", Rand) ∷ (ascii "shares", Shares) ∷ (ascii "map", Map) ∷ (ascii "input", Input)
+    ∷ (ascii "origin", Origin) ∷ (ascii "result", Result) ∷ (ascii "masked", Masked) ∷ (ascii "output", Output) ∷ []
 
 -- the word that the bytes spell
 unfoldable pub wordOf : List ℕ → Word
-wordOf w =
-    cond (sameBytes w (ascii "shares")) Shares
-    (cond (sameBytes w (ascii "map")) Map
-    (cond (sameBytes w (ascii "input")) Input
-    (cond (sameBytes w (ascii "origin")) Origin
-    (cond (sameBytes w (ascii "result")) Result
-    (cond (sameBytes w (ascii "masked")) Masked
-    (cond (sameBytes w (ascii "output")) Output
-    (statementWord w)))))))
+wordOf w = spelt Unknown w words

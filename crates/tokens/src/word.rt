@@ -1,7 +1,7 @@
 // The word of a record.
-use crate::bytes::same;
+use crate::split;
 ghost use mathlib.Core.Path.{_≡_};
-ghost use Rattle.tokens.specs.Word.{statementWord, wordOf};
+ghost use Rattle.tokens.specs.Word.{wordOf};
 
 // The word that a record begins with; Unknown stands for every other.
 pub enum Word {
@@ -21,55 +21,28 @@ pub enum Word {
     Unknown,
 }
 
-// The word of a statement.
-pub fn statement_word(f: &[u8]) -> Word
-    ensures { λ r. ⌜ r ≡ statementWord (now (f .entry)) ⌝ }
-{
-    if same(f, b"set") {
-        return Word::Set;
-    }
-    if same(f, b"xor") {
-        return Word::Xor;
-    }
-    if same(f, b"mul") {
-        return Word::Mul;
-    }
-    if same(f, b"app") {
-        return Word::App;
-    }
-    if same(f, b"let") {
-        return Word::Let;
-    }
-    if same(f, b"rand") {
-        return Word::Rand;
-    }
-    Word::Unknown
-}
-
-// The word of a record.
+// The word of a record: the one at the number that the bytes have among the spellings. The most
+// frequent come first.
 pub fn word_of(f: &[u8]) -> Word
     ensures { λ r. ⌜ r ≡ wordOf (now (f .entry)) ⌝ }
 {
-    if same(f, b"shares") {
-        return Word::Shares;
-    }
-    if same(f, b"map") {
-        return Word::Map;
-    }
-    if same(f, b"input") {
-        return Word::Input;
-    }
-    if same(f, b"origin") {
-        return Word::Origin;
-    }
-    if same(f, b"result") {
-        return Word::Result;
-    }
-    if same(f, b"masked") {
-        return Word::Masked;
-    }
-    if same(f, b"output") {
-        return Word::Output;
-    }
-    statement_word(f)
+    let spelt = b"xor mul set let app rand shares map input origin result masked output";
+    let words = [
+        Word::Xor,
+        Word::Mul,
+        Word::Set,
+        Word::Let,
+        Word::App,
+        Word::Rand,
+        Word::Shares,
+        Word::Map,
+        Word::Input,
+        Word::Origin,
+        Word::Result,
+        Word::Masked,
+        Word::Output,
+        Word::Unknown,
+    ];
+    let k = split::piece_of(spelt, b' ', f);
+    words[k]
 }

@@ -13,7 +13,7 @@ use borrow.Author.Tests.{le-ltb}
 use Rattle.tokens.specs.Ascii.{all, lineFeed, ascii, sameBytes}
 use Rattle.tokens.specs.Byte.{Each}
 use Rattle.tokens.specs.Split.{pieces}
-use Rattle.tokens.specs.Word.{wordOf, statementWord}
+use Rattle.tokens.specs.Word.{spelt, words, wordOf}
 use Rattle.tokens.specs.Written.{joinedBy}
 use Rattle.tokens.proofs.Laws.Some.{some-same}
 use Rattle.tokens.proofs.Laws.Joined.{Without, pieces-joined, joined-pieces, weight, joined-length}
@@ -43,12 +43,12 @@ use Rattle.unrolled.proofs.Laws.Unrolling.{line-stays, lines-unroll}
 
 -- it makes no record
 empty-none : recordOf [] ≡ none
-unfolding recordOf pieces wordOf statementWord ascii sameBytes recordFor
+unfolding recordOf pieces wordOf words spelt ascii sameBytes recordFor
 empty-none = refl
 
 -- it is not taken
 empty-stops : (s : State) (n : ℕ) → takeLine s n [] ≡ stop 5
-unfolding takeLine all takePieces takeRecord pieces wordOf statementWord ascii sameBytes recordFor
+unfolding takeLine all takePieces takeRecord pieces wordOf words spelt ascii sameBytes recordFor
 empty-stops s n = refl
 
 -- lines that are all taken, and what stands behind them

@@ -14,7 +14,7 @@ use Rattle.verdict.specs.Instances.{polynomials}
 use Rattle.values.specs.declared.shelf.Shelf.{Shelf}
 use Rattle.values.specs.declared.source.Scope.{Scope}
 use Rattle.values.specs.declared.found.Found.{Found}
-use Rattle.values.specs.declared.found.Found.the-variants.{Copy, Sum, Product, Image, Draw}
+use Rattle.values.specs.declared.found.Found.the-variants.{Copy, Sum, Product, Image}
 use Rattle.values.specs.Source.{sourceOf, sourceSize, Fits, variablesOf, reach}
 use Rattle.values.specs.Raw.{mostStanding, rawIn, Tabled}
 
@@ -25,7 +25,6 @@ foundValue m w lists constants b (Sum r t) = addPoly (gf m) (sourceOf w b r) (so
 foundValue m w lists constants b (Product r t) = mulPoly (gf m) (sourceOf w b r) (sourceOf w b t)
 foundValue m w lists constants b (Image f r) =
     mapPoly (gf m) (w - 1) (getD constants f 0) (getD lists f []) (sourceOf w b r)
-foundValue m w lists constants b (Draw r) = sourceOf w b r
 
 -- the raw size
 unfoldable pub foundSize : List (List ℕ) → List ℕ → Found → ℕ
@@ -33,15 +32,13 @@ foundSize lists constants (Copy r) = sourceSize r
 foundSize lists constants (Sum r t) = sourceSize r + sourceSize t
 foundSize lists constants (Product r t) = sourceSize r * sourceSize t
 foundSize lists constants (Image f r) = nonzeros (getD lists f []) * sourceSize r + oneIf (getD constants f 0)
-foundSize lists constants (Draw r) = 1
 
--- all sources fit, the map has a place in the table, and what is drawn has at most one term
+-- all sources fit, and the map has a place in the table
 abbrev pub AllFit : ℕ → ℕ → Found → Type 0
 AllFit w top (Copy r) = Fits w top r
 AllFit w top (Sum r t) = Fits w top r × Fits w top t
 AllFit w top (Product r t) = Fits w top r × Fits w top t
 AllFit w top (Image f r) = (f < 8) × Fits w top r
-AllFit w top (Draw r) = Fits w top r × (sourceSize r ≤ 1)
 
 -- what the raw size asks: operands of few terms where sizes are added or multiplied, and a map in its place
 abbrev pub RawAsked : Found → Type 0
@@ -49,7 +46,6 @@ RawAsked (Copy r) = Unit {0}
 RawAsked (Sum r t) = (sourceSize r ≤ mostStanding) × (sourceSize t ≤ mostStanding)
 RawAsked (Product r t) = (sourceSize r ≤ mostStanding) × (sourceSize t ≤ mostStanding)
 RawAsked (Image f r) = (f < 8) × (sourceSize r ≤ mostStanding)
-RawAsked (Draw r) = Unit {0}
 
 -- the sources are those of the statement's operands, in every buffer with this directory
 pub record FoundFor (s : Scope) (d : Shelf) (op : Op) (r : Found) : Type 0 where

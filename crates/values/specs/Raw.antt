@@ -34,13 +34,13 @@ pub record Tabled (m : ℕ) (maps : List AffineMap) (lists : List (List ℕ)) (c
   pub coefficients : (f : ℕ) → f < 8 → getD lists f [] ≡ coefficientsOf m (mapAt maps f .columns)
   pub constant : (f : ℕ) → f < 8 → getD constants f 0 ≡ mapAt maps f .constant
 
--- a map that is applied has a place in the table
-abbrev pub Mapped : Op → Type 0
-Mapped (Set a) = Unit {0}
-Mapped (Xor a b) = Unit {0}
-Mapped (Mul a b) = Unit {0}
-Mapped (App f a) = f < 8
-Mapped (Rand v) = Unit {0}
+-- a map that is applied has a place in the table, and a variable that is drawn is one of the first `drawn`
+abbrev pub Inside : (drawn : ℕ) → Op → Type 0
+Inside drawn (Set a) = Unit {0}
+Inside drawn (Xor a b) = Unit {0}
+Inside drawn (Mul a b) = Unit {0}
+Inside drawn (App f a) = f < 8
+Inside drawn (Rand v) = v < drawn
 
 -- what sizes ask: places can be found, and not too many terms stand
 pub record SizeAsked (s : Scope) (d : Shelf) : Type 0 where

@@ -9,7 +9,7 @@ use Rattle.poly.specs.Size.{oneIf}
 use Rattle.rules.specs.declared.types.Operand.{Operand}
 use Rattle.rules.specs.Limits.{mostVariables}
 use Rattle.verdict.specs.Lists.{tabulate}
-use Rattle.verdict.specs.Meaning.{operand, valueAt}
+use Rattle.verdict.specs.Meaning.{operand}
 use Rattle.verdict.specs.Instances.{polynomials}
 use Rattle.values.specs.declared.shelf.Shelf.{Shelf}
 use Rattle.values.specs.declared.source.Source.{Source}
@@ -61,9 +61,3 @@ pub record Narrow (s : Scope) (d : Shelf) : Type 0 where
 pub record Located (s : Scope) (d : Shelf) (a : Operand) (r : Source) : Type 0 where
   pub means : (m w : ℕ) (b : List ℕ) → sourceOf w b r ≡ operand (polynomials m (w - 1)) (reach w b d s) a
   pub fits : (w : ℕ) → s .begins * s .width < w → Fits w (d .top) r
-
--- the source is the drawn variable
-pub record Drawn (s : Scope) (v : ℕ) (r : Source) : Type 0 where
-  pub means : (m w : ℕ) (b : List ℕ) → sourceOf w b r ≡ valueAt (polynomials m (w - 1)) (variablesOf (w - 1) s) v
-  pub fits : (w top : ℕ) → s .drawn < w → Fits w top r
-  pub few : sourceSize r ≤ 1

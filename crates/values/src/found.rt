@@ -2,25 +2,23 @@
 use crate::shelf::Shelf;
 use crate::source::Scope;
 use crate::source::Source;
-use crate::source::draw;
 use crate::source::locate;
 use rules::types::Op;
 ghost use Rattle.values.specs.Source.{Narrow};
-ghost use Rattle.values.specs.Raw.{Mapped};
+ghost use Rattle.values.specs.Raw.{Inside};
 ghost use Rattle.values.specs.Found.{FoundFor};
 
-// A copy; the sum or the product of two; the image under a map, by its place; a variable drawn.
+// A copy; the sum or the product of two; the image under a map, by its place.
 pub enum Found {
     Copy(Source),
     Sum(Source, Source),
     Product(Source, Source),
     Image(usize, Source),
-    Draw(Source),
 }
 
-// Finds the operands of a statement.
+// Finds the operands of a statement; a rand copies the variable that it draws.
 pub fn find(s: Scope, d: Shelf, op: Op) -> Found
-    requires { ⌜ Narrow s d × Mapped op ⌝ }
+    requires { ⌜ Narrow s d × Inside (s .drawn) op ⌝ }
     ensures { λ r. ⌜ FoundFor s d op r ⌝ }
 {
     match op {
@@ -28,6 +26,6 @@ pub fn find(s: Scope, d: Shelf, op: Op) -> Found
         Op::Xor(a, b) => Found::Sum(locate(s, d, a), locate(s, d, b)),
         Op::Mul(a, b) => Found::Product(locate(s, d, a), locate(s, d, b)),
         Op::App(f, a) => Found::Image(f, locate(s, d, a)),
-        Op::Rand(v) => Found::Draw(draw(s, v)),
+        Op::Rand(v) => Found::Copy(Source::Variables(v, 1)),
     }
 }

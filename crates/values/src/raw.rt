@@ -58,6 +58,5 @@ pub fn raw_size(lists: [[u8; 8]; 8], constants: [u8; 8], found: Found) -> usize
             let list = lists[f];
             image_size(list, constants[f], size_of(a))
         }
-        Found::Draw(_) => 1,
     }
 }

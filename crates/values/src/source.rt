@@ -4,7 +4,7 @@ use rules::types::Operand;
 ghost use mathlib.Core.Path.{_≡_};
 ghost use Prim.Native.Nat.{_*_, _<_};
 ghost use Rattle.rules.specs.declared.types.Operand.the-variants.{Place};
-ghost use Rattle.values.specs.Source.{Narrow, Located, sourceSize, Drawn};
+ghost use Rattle.values.specs.Source.{Narrow, Located, sourceSize};
 
 // A constant; the sum of some variables, the first and how many; or a value in the buffer, its
 // first term and how many.
@@ -47,17 +47,6 @@ pub(crate) fn locate(s: Scope, d: Shelf, a: Operand) -> Source
     match a {
         Operand::Place(i) => place(s, d, i),
         Operand::Byte(c) => Source::Constant(c),
-    }
-}
-
-// The variable that a rand draws; past the last it is 0.
-pub(crate) fn draw(s: Scope, v: usize) -> Source
-    ensures { λ r. ⌜ Drawn s v r ⌝ }
-{
-    if v < s.drawn {
-        Source::Variables(v, 1)
-    } else {
-        Source::Constant(0)
     }
 }
 

@@ -29,6 +29,5 @@ pub fn form_value(
         Found::Sum(a, b) => form_sum(m, left, top, a, b, right, w),
         Found::Product(a, b) => form_product(m, left, top, a, b, right, w),
         Found::Image(f, a) => form_image(m, lists, f, constants[f], left, top, a, right, w),
-        Found::Draw(a) => form_copy(left, top, a, right, w),
     }
 }

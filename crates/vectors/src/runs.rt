@@ -1,6 +1,7 @@
 // Each stored text run on bytes, one for each of its variables, and coefficients of lists of bytes.
 use crate::show::end_line;
 use crate::show::print_byte;
+use crate::show::print_bytes;
 use crate::show::print_number;
 use crate::show::print_small;
 use crate::show::print_word;
@@ -78,10 +79,6 @@ fn print_map(list: &[u8]) {
     print_small(answer.refusal);
     print_number(answer.line);
     let found = answer.coefficients;
-    let mut j: usize = 0;
-    while j < 8 {
-        print_byte(found[j]);
-        j += 1;
-    }
+    print_bytes(found);
     end_line();
 }

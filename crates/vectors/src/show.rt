@@ -24,6 +24,15 @@ pub(crate) fn print_byte(byte: u8) {
     io::write_all(STDOUT_FILENO, &pair);
 }
 
+// Writes eight bytes, each as a tab and two hex digits.
+pub(crate) fn print_bytes(list: [u8; 8]) {
+    let mut j: usize = 0;
+    while j < 8 {
+        print_byte(list[j]);
+        j += 1;
+    }
+}
+
 // Writes the hex digit of a number below 16.
 pub(crate) fn print_digit(n: u8) {
     let one: [u8; 1] = [digit(n)];

@@ -1,6 +1,7 @@
 // The S-box of FIPS 197 and the coefficients of two maps, by the functions of crate field.
 use crate::show::end_line;
 use crate::show::print_byte;
+use crate::show::print_bytes;
 use crate::show::print_digit;
 use crate::show::print_word;
 
@@ -43,12 +44,7 @@ pub(crate) fn print_sbox() {
 
 // Prints the eight coefficients of the map with these columns.
 fn print_list(columns: [u8; 8]) {
-    let list = field::coefficients(MODULUS, columns);
-    let mut j: usize = 0;
-    while j < 8 {
-        print_byte(list[j]);
-        j += 1;
-    }
+    print_bytes(field::coefficients(MODULUS, columns));
     end_line();
 }
 

@@ -10,7 +10,7 @@ use Rattle.poly.specs.Size.{oneIf}
 use Rattle.rules.specs.Read.{Routine}
 use Rattle.rules.specs.Formed.{Formed}
 use Rattle.verdict.specs.Lists.{tabulate, lots, behind, poured}
-use Rattle.verdict.specs.Meaning.{values, joined, trace, originValues, maskedValues}
+use Rattle.verdict.specs.Meaning.{Algebra, values, joined, trace, originValues, maskedValues}
 use Rattle.verdict.specs.Instances.{modulusOf, powersOf, polynomials, polynomialsOf, symbolic}
 use Rattle.verdict.proofs.Laws.Begins.{tabulate-take, inputs-from}
 use Rattle.verdict.proofs.Laws.Lists.{length-lots, square-lots, length-tabulate}
@@ -29,7 +29,8 @@ constant-size n (suc b) = refl
 pub variable-size : (n i : ℕ) → length (variable n i) ≡ 1
 variable-size n i = refl
 
-units-size : (n i k : ℕ) → length (units n i k) ≡ k
+-- the sum of k variables has k terms
+pub units-size : (n i k : ℕ) → length (units n i k) ≡ k
 units-size n i zero = refl
 units-size n i (suc k) = ap suc (units-size n (suc i) k)
 
@@ -41,6 +42,16 @@ sizes-same (suc c) k f h = ap₂ {C = List ℕ} _∷_ (h 0) (sizes-same c k (λ 
 -- ---- the blocks
 
 module _ (r : Routine) (F : Formed r) where
+  abbrev A : Algebra Poly
+  A = polynomials (modulusOf r) (powersOf r)
+
+  -- the variables, and the shares of each input among them
+  abbrev xs : List Poly
+  xs = tabulate (r .variables) (variable (powersOf r))
+
+  abbrev ss : List (List Poly)
+  ss = lots (r .shares) (r .inputs) xs
+
   -- THEOREM: an input of the origin block has k terms
   pub input-sizes : map length (take (r .inputs) (symbolic r .origin)) ≡ replicate (r .inputs) (r .shares)
   unfolding symbolic trace originValues polynomialsOf
@@ -48,11 +59,9 @@ module _ (r : Routine) (F : Formed r) where
       let k = r .shares in
       let m = r .inputs in
       let n = powersOf r in
-      let A = polynomials (modulusOf r) n in
-      let xs : List Poly = tabulate (r .variables) (variable n) in
-      let ins : List Poly = map (joined A) (lots k m xs) in
+      let ins : List Poly = map (joined A) ss in
       let count : length ins ≡ m =
-      length-map (lots k m xs) (joined A) ∙ length-lots k m (lots k m xs) (square-lots k m xs
+      length-map ss (joined A) ∙ length-lots k m ss (square-lots k m xs
       (omega (arith, F .fits, length-tabulate (r .variables) (variable n)))) in
       ap (λ (c : ℕ). map length (take c (values A (r .maps) [] ins (r .origin)))) (sym count)
       ∙ ap (map length) (values-take A (r .maps) [] ins (r .origin)
@@ -64,16 +73,12 @@ module _ (r : Routine) (F : Formed r) where
       ≡ replicate (r .inputs * r .shares) 1
   unfolding symbolic trace maskedValues polynomialsOf
   share-sizes =
-      let k = r .shares in
-      let m = r .inputs in
-      let n = powersOf r in
-      let A = polynomials (modulusOf r) n in
-      let xs : List Poly = tabulate (r .variables) (variable n) in
-      let front : poured (lots k m xs) ≡ tabulate (m * k) (variable n) =
-      poured-front k m xs ∙ tabulate-take (variable n) (r .variables) (m * k) (F .fits) in
-      let count : length (poured (lots k m xs)) ≡ m * k =
-      ap length front ∙ length-tabulate (m * k) (variable n) in
-      let ys : List Poly = poured (lots k m xs) ++ behind k m xs in
-      ap (λ (c : ℕ). map length (take c (values A (r .maps) ys (poured (lots k m xs)) (r .masked)))) (sym count)
-      ∙ ap (map length) (values-take A (r .maps) ys (poured (lots k m xs)) (r .masked) ∙ front)
-      ∙ sizes-same (m * k) 1 (variable n) (variable-size n)
+      let c : ℕ = r .inputs * r .shares in
+      let v = variable (powersOf r) in
+      let front : poured ss ≡ tabulate c v =
+      poured-front (r .shares) (r .inputs) xs ∙ tabulate-take v (r .variables) c (F .fits) in
+      let count : length (poured ss) ≡ c = ap length front ∙ length-tabulate c v in
+      let ys : List Poly = poured ss ++ behind (r .shares) (r .inputs) xs in
+      ap (λ (j : ℕ). map length (take j (values A (r .maps) ys (poured ss) (r .masked)))) (sym count)
+      ∙ ap (map length) (values-take A (r .maps) ys (poured ss) (r .masked) ∙ front)
+      ∙ sizes-same c 1 v (variable-size (powersOf r))

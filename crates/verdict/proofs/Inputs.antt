@@ -24,7 +24,8 @@ use Rattle.verdict.specs.Instances.{modulusOf, bytes, bytesOf}
 use Rattle.verdict.specs.Equivalent.{original}
 use Rattle.verdict.specs.Run.{resultAt}
 use Rattle.verdict.specs.Idle.{ShareOf, Unmoved, Indifferent, IdleInputs, UnmovedInputs}
-use Rattle.verdict.proofs.Laws.Lists.{Square, lots-poured, each-append, each-poured, each-replicate, each-lots}
+use Rattle.verdict.proofs.Laws.Lists.{Square, parts-poured, each-poured, each-replicate, each-lots}
+use Rattle.rules.proofs.Laws.Letting.{each-append}
 use Rattle.verdict.proofs.Laws.Lists.{each-map, each-at, length-poured, square-lots, length-lots}
 use Rattle.verdict.proofs.Laws.Closed.{joined-closed}
 use Rattle.verdict.proofs.Laws.Value.{modulus-of}
@@ -193,8 +194,8 @@ module _ (r : Routine) (F : Formed r) (i : ℕ) (li : i < r .inputs) where
     -- the lots are the inputs' shares
     parted : lots (r .shares) (r .inputs) xs ≡ map (alone k) a
     parted =
-        lots-poured (r .shares) (r .inputs) (map (alone k) a) (replicate (r .variables - r .inputs * r .shares) 0)
-        square
+        parts-poured (r .shares) (r .inputs) (map (alone k) a) (replicate (r .variables - r .inputs * r .shares) 0)
+        square .0
 
     -- the variables are bytes
     xs-bytes : ByteList (r .variables) xs

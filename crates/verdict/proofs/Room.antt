@@ -20,7 +20,8 @@ use Rattle.verdict.specs.Meaning.{resultIn, outputsIn, trace, joinedIn, 
 use Rattle.verdict.specs.Instances.{modulusOf, powersOf, polynomials, polynomialsOf, symbolic, difference}
 use Rattle.verdict.specs.Count.{Step, stepAt, blockSteps, lastStep, steps, standing, mostTerms}
 use Rattle.verdict.specs.Verdict.{placesOf, Decided}
-use Rattle.verdict.proofs.Laws.Lists.{each-at, each-append, each-poured, each-lots, each-behind, each-tabulate}
+use Rattle.verdict.proofs.Laws.Lists.{each-at, each-poured, each-lots, each-behind, each-tabulate}
+use Rattle.rules.proofs.Laws.Letting.{each-append}
 use Rattle.verdict.proofs.Laws.Lists.{Square, length-poured, square-lots, length-lots, length-tabulate}
 use Rattle.verdict.proofs.Laws.Count.{standing-next}
 use Rattle.verdict.proofs.Laws.Steps.{getD-end, steps-next, given-size}

@@ -3,16 +3,17 @@ use mathlib.Core.Path.{_≡_, refl, sym, ap, ap₂, _∙_, subst}
 use mathlib.Core.List.{List, _∷_}
 use Prim.Native.Nat.{ℕ, suc, _+_, _*_, _-_, _≤_, _<_}
 use native.Mathlib.Omega.{arith}
-use native.Mathlib.Nat.{mul-le-mul-right}
+use native.Mathlib.Nat.{le-refl, zero-mul, mul-le-mul-right}
 use lib.ListN.{length, getD, take, drop, length-drop}
 use lib.Seq.{length-take-le, drop-cons}
-use Rattle.field.specs.Laws.{Ops}
+use Rattle.field.specs.Laws.{Ops, gf}
 use Rattle.poly.specs.Poly.{term, Poly, insert, into}
 use Rattle.poly.specs.Canon.{Sorted}
 use Rattle.buffer.specs.Buffer.{termAt, readTerms}
-use Rattle.buffer.specs.Insert.{Holds, InsertAsked, Inserted}
+use Rattle.buffer.specs.Insert.{Holds, InsertAsked, Inserted, InsertedAny, AddAsked, AddedAny}
 use Rattle.poly.proofs.Laws.Sum.{into-sorted, into-length}
 use Rattle.buffer.proofs.Lent.Reads.{read-length}
+use Rattle.buffer.proofs.Lent.Strides.{Back, back}
 
 -- ---- what a buffer holds
 
@@ -100,3 +101,111 @@ read-back src w j k at pos l g e =
     let s : k - (j - 1) ≡ suc (k - j) = omega arith in
     let u : at + suc (w - 1) ≡ j * w = omega arith in
     ap (readTerms (w - 1) src at) s ∙ ap (λ (x : ℕ). termAt (w - 1) src at ∷ readTerms (w - 1) src x (k - j)) u
+
+-- the j-th of k terms of src starts at byte `at`: the term before it
+module _ (src : List ℕ) (j k w at : ℕ) (pos : 0 < w) (l : 0 < j) (most : j ≤ k) (here : at ≡ j * w)
+    (source : k * w ≤ length src) where
+  -- its place
+  pub prior-place : Back j w at (length src)
+  prior-place = back j k w at (length src) l most here source
+
+  -- it stands in src
+  pub prior-fits : at - w + w ≤ length src
+  prior-fits = omega (arith, prior-place)
+
+  -- its bytes
+  abbrev pub prior : List ℕ
+  prior = row src (at - w) w pos prior-fits
+
+  -- they are w
+  pub prior-length : length prior ≡ w
+  prior-length = row-length src (at - w) w pos prior-fits
+
+  -- the term, and those from the j-th on
+  pub read-prior : term (getD prior 0 0) (drop 1 prior) ∷ readTerms (w - 1) src (j * w) (k - j)
+      ≡ readTerms (w - 1) src ((j - 1) * w) (k - (j - 1))
+  read-prior =
+      let u = prior-place in
+      let y : at - w ≡ (j - 1) * w = omega arith in
+      ap₂ {C = Poly} (λ (x : ℕ) (e : List ℕ). term x e ∷ readTerms (w - 1) src (j * w) (k - j))
+      (row-coef src (at - w) w pos prior-fits) (row-powers src (at - w) w pos prior-fits)
+      ∙ sym (read-back src w j k (at - w) pos l most (omega arith))
+      ∙ ap (λ (x : ℕ). readTerms (w - 1) src x (k - (j - 1))) y
+
+-- ---- the terms of src inserted, the last first
+
+-- the terms of src from j on are inserted
+pub record InAdd (b₀ : List ℕ) (r : ℕ) (src : List ℕ) (k w : ℕ) (b : List ℕ) (n j at : ℕ) : Type 0 where
+  pub asked : AddAsked b₀ r src k w
+  pub most : j ≤ k
+  pub here : at ≡ j * w
+  pub holds : (m : ℕ) → Holds b₀ b w ((r + k) * w) n
+      (into (gf m) (readTerms (w - 1) src (j * w) (k - j)) (readTerms (w - 1) b₀ 0 r))
+
+module _ {b₀ : List ℕ} {r : ℕ} {src : List ℕ} {k w : ℕ} where
+  -- at first none is
+  pub add-start : AddAsked b₀ r src k w → InAdd b₀ r src k w b₀ r k (k * w)
+  add-start a =
+      let z : 0 ≡ k - k = omega arith in
+      record {
+        asked = a;
+        most = le-refl k;
+        here = refl;
+        holds = λ m.
+            subst (λ (x : ℕ). Holds b₀ b₀ w ((r + k) * w) r
+            (into (gf m) (readTerms (w - 1) src (k * w) x) (readTerms (w - 1) b₀ 0 r))) z
+            (holds-start b₀ w ((r + k) * w) r);
+      }
+
+  module _ {b : List ℕ} {n j at : ℕ} (h : InAdd b₀ r src k w b n j at) where
+    -- at last every one is
+    pub add-done : j ≡ 0 → AddedAny b₀ b r src w k n
+    add-done z m =
+        let y : j * w ≡ 0 = ap (λ (x : ℕ). x * w) z ∙ zero-mul w in
+        let x : k - j ≡ k = omega arith in
+        subst (λ (p : Poly). Holds b₀ b w ((r + k) * w) n (into (gf m) p (readTerms (w - 1) b₀ 0 r)))
+        (ap₂ (λ (u v : ℕ). readTerms (w - 1) src u v) y x) (h .holds m)
+
+    module _ (l : 0 < j) where
+      -- the place of the next term of src
+      pub add-back : Back j w at (length src)
+      add-back = prior-place src j k w at (h .asked .some) l (h .most) (h .here) (h .asked .source)
+
+      -- its bytes
+      abbrev next : List ℕ
+      next = prior src j k w at (h .asked .some) l (h .most) (h .here) (h .asked .source)
+
+      -- they are w
+      next-length : length next ≡ w
+      next-length = prior-length src j k w at (h .asked .some) l (h .most) (h .here) (h .asked .source)
+
+      -- the terms inserted so far
+      abbrev done : Poly
+      done = readTerms (w - 1) src (j * w) (k - j)
+
+      -- the terms that stood there
+      abbrev there : Poly
+      there = readTerms (w - 1) b₀ 0 r
+
+      -- there is room for one more
+      inside : length done + length there < r + k
+      inside = omega (arith, read-length (w - 1) src (j * w) (k - j), read-length (w - 1) b₀ 0 r, h .most)
+
+      -- what its insertion asks
+      pub add-asks : InsertAsked b n next
+      add-asks =
+          more-asks (gf 0) b₀ b w (r + k) n done there (h .asked .some) (h .asked .room) (h .asked .sorted) inside
+          (h .holds 0) next next-length
+
+      -- one term more is inserted
+      pub add-more : {b′ : List ℕ} {n′ : ℕ} → InsertedAny b b′ n next n′ → InAdd b₀ r src k w b′ n′ (j - 1) (at - w)
+      add-more {b′} {n′} i = record {
+        asked = h .asked;
+        most = omega (arith, h .most);
+        here = omega (arith, add-back);
+        holds = λ m.
+            subst (λ (p : Poly). Holds b₀ b′ w ((r + k) * w) n′ (into (gf m) p there))
+            (read-prior src j k w at (h .asked .some) l (h .most) (h .here) (h .asked .source))
+            (more-holds (gf m) b₀ b w (r + k) n done there (h .asked .some) (h .asked .room) (h .asked .sorted)
+            inside (h .holds m) b′ next n′ next-length (i m));
+      }

@@ -1,5 +1,5 @@
 -- Comparing two lists of powers from their ends: what a loop over the bytes, last first, may rely on. Assumes nothing.
-use mathlib.Core.Path.{_≡_, sym, ap, ap₂, _∙_, subst}
+use mathlib.Core.Path.{_≡_, refl, sym, ap, ap₂, _∙_, subst}
 use mathlib.Core.List.{List, [], _∷_}
 use Prim.Native.Nat.{ℕ, zero, suc, _-_, _≤_, _<_, compare, Ordering, Ordering·lt, Ordering·eq, Ordering·gt}
 use Prim.Native.Nat.{compare·zero-zero, compare·zero-suc, compare·suc-zero, compare·suc-suc}
@@ -35,23 +35,15 @@ one-more e f k h l q =
     ap₂ order (drop-cons e k 0 h) (drop-cons f k 0 l)
     ∙ ap (λ (o : Ordering). orElse o (compare (getD e k 0) (getD f k 0))) q
 
--- a difference further down decides
-pub decided-lt : (k : ℕ) (e f : List ℕ) → k ≤ length e → k ≤ length f → order (drop k e) (drop k f) ≡ Ordering·lt
-    → order e f ≡ Ordering·lt
-decided-lt zero e f h l q = q
-decided-lt (suc k) [] f h l q = absurd (omega arith)
-decided-lt (suc k) (a ∷ e) [] h l q = absurd (omega arith)
-decided-lt (suc k) (a ∷ e) (b ∷ f) h l q =
-    ap (λ (o : Ordering). orElse o (compare a b)) (decided-lt k e f (le-of-suc-le-suc h) (le-of-suc-le-suc l) q)
-
--- and so for `gt`
-pub decided-gt : (k : ℕ) (e f : List ℕ) → k ≤ length e → k ≤ length f → order (drop k e) (drop k f) ≡ Ordering·gt
-    → order e f ≡ Ordering·gt
-decided-gt zero e f h l q = q
-decided-gt (suc k) [] f h l q = absurd (omega arith)
-decided-gt (suc k) (a ∷ e) [] h l q = absurd (omega arith)
-decided-gt (suc k) (a ∷ e) (b ∷ f) h l q =
-    ap (λ (o : Ordering). orElse o (compare a b)) (decided-gt k e f (le-of-suc-le-suc h) (le-of-suc-le-suc l) q)
+-- a difference further down decides: o is `lt` or `gt`, which no further answer changes
+pub decided : (o : Ordering) → ((r : Ordering) → orElse o r ≡ o) → (k : ℕ) (e f : List ℕ) → k ≤ length e → k ≤ length f
+    → order (drop k e) (drop k f) ≡ o → order e f ≡ o
+decided o d zero e f h l q = q
+decided o d (suc k) [] f h l q = absurd (omega arith)
+decided o d (suc k) (a ∷ e) [] h l q = absurd (omega arith)
+decided o d (suc k) (a ∷ e) (b ∷ f) h l q =
+    ap (λ (x : Ordering). orElse x (compare a b)) (decided o d k e f (le-of-suc-le-suc h) (le-of-suc-le-suc l) q)
+    ∙ d (compare a b)
 
 -- ---- for a loop that goes down from the length to 0, at k with 0 < k and nothing that differs from k on
 
@@ -71,17 +63,18 @@ module _ (e f : List ℕ) (k : ℕ) (pos : 0 < k) (h : k ≤ length e) (l : leng
       one-more e f (k - 1) (omega arith) (omega arith)
       (subst (λ (x : ℕ). order (drop x e) (drop x f) ≡ Ordering·eq) s q)
 
+  -- a power that differs decides
+  stop : (o : Ordering) → ((r : Ordering) → orElse o r ≡ o) → compare (getD e (k - 1) 0) (getD f (k - 1) 0) ≡ o
+      → answer o ≡ answer (order e f)
+  stop o d c = sym (ap answer (decided o d (k - 1) e f (omega arith) (omega arith) (at-last ∙ c)))
+
   -- a smaller power: the left comes first
   pub stop-less : getD e (k - 1) 0 < getD f (k - 1) 0 → 0 ≡ answer (order e f)
-  stop-less m =
-      sym (ap answer (decided-lt (k - 1) e f (omega arith) (omega arith)
-      (at-last ∙ compare-less (getD e (k - 1) 0) (getD f (k - 1) 0) m)))
+  stop-less m = stop Ordering·lt (λ r. refl) (compare-less (getD e (k - 1) 0) (getD f (k - 1) 0) m)
 
   -- a larger power: the right comes first
   pub stop-more : getD f (k - 1) 0 < getD e (k - 1) 0 → 2 ≡ answer (order e f)
-  stop-more m =
-      sym (ap answer (decided-gt (k - 1) e f (omega arith) (omega arith)
-      (at-last ∙ compare-more (getD e (k - 1) 0) (getD f (k - 1) 0) m)))
+  stop-more m = stop Ordering·gt (λ r. refl) (compare-more (getD e (k - 1) 0) (getD f (k - 1) 0) m)
 
   -- the same power: nothing differs from one further down on
   pub go-on : getD f (k - 1) 0 ≤ getD e (k - 1) 0 → getD e (k - 1) 0 ≤ getD f (k - 1) 0

@@ -19,13 +19,13 @@ stored b k v i x l h g = go (ℕ-discrete i k)
     go (no n) = getD-set-other b k i v 0 n ∙ g n
 
 -- nothing is moved up
-pub up-none : (b : List ℕ) (to by : ℕ) → MovedUp b b to to by
-up-none b to by = record { size = refl; low = λ i h. refl; moved = λ i h k. absurd (omega arith); high = λ i h. refl }
+pub up-none : {b : List ℕ} {to by : ℕ} → MovedUp b b to to by
+up-none = record { size = refl; low = λ i h. refl; moved = λ i h k. absurd (omega arith); high = λ i h. refl }
 
 -- one byte more is moved up
-pub up-more : (b₀ b : List ℕ) (k to by : ℕ) → 0 < k → k ≤ to → to + by ≤ length b₀ → MovedUp b₀ b k to by
+pub up-more : {b₀ b : List ℕ} {k to by : ℕ} → MovedUp b₀ b k to by → 0 < k → k ≤ to → to + by ≤ length b₀
     → MovedUp b₀ (set b (k - 1 + by) (getD b (k - 1) 0)) (k - 1) to by
-up-more b₀ b k to by p q r h =
+up-more {b₀} {b} {k} {to} {by} h p q r =
     let s : k - 1 + by < length b = omega (arith, h .size) in
     record {
       size = length-set b (k - 1 + by) (getD b (k - 1) 0) ∙ h .size;
@@ -38,15 +38,18 @@ up-more b₀ b k to by p q r h =
           (λ n. h .high i l);
     }
 
+-- every byte is moved up
+pub up-all : {b₀ b : List ℕ} {k from to by : ℕ} → MovedUp b₀ b k to by → k ≡ from → MovedUp b₀ b from to by
+up-all {b₀} {b} {k} {from} {to} {by} h e = subst (λ (x : ℕ). MovedUp b₀ b x to by) e h
+
 -- nothing is moved down
-pub down-none : (b : List ℕ) (from by : ℕ) → MovedDown b b from from by
-down-none b from by =
-    record { size = refl; low = λ i h. refl; moved = λ i h k. absurd (omega arith); high = λ i h. refl }
+pub down-none : {b : List ℕ} {from by : ℕ} → MovedDown b b from from by
+down-none = record { size = refl; low = λ i h. refl; moved = λ i h k. absurd (omega arith); high = λ i h. refl }
 
 -- one byte more is moved down
-pub down-more : (b₀ b : List ℕ) (from j by : ℕ) → by ≤ from → from ≤ j → j < length b₀ → MovedDown b₀ b from j by
+pub down-more : {b₀ b : List ℕ} {from j by : ℕ} → MovedDown b₀ b from j by → by ≤ from → from ≤ j → j < length b₀
     → MovedDown b₀ (set b (j - by) (getD b j 0)) from (j + 1) by
-down-more b₀ b from j by p q r h =
+down-more {b₀} {b} {from} {j} {by} h p q r =
     let s : j - by < length b = omega (arith, h .size) in
     record {
       size = length-set b (j - by) (getD b j 0) ∙ h .size;
@@ -58,15 +61,19 @@ down-more b₀ b from j by p q r h =
           (λ n. h .high i (omega arith));
     }
 
+-- every byte is moved down
+pub down-all : {b₀ b : List ℕ} {from j to by : ℕ} → MovedDown b₀ b from j by → j ≡ to → MovedDown b₀ b from to by
+down-all {b₀} {b} {from} {j} {to} {by} h e = subst (λ (x : ℕ). MovedDown b₀ b from x by) e h
+
 -- nothing is written
-pub written-none : (b : List ℕ) (at : ℕ) → Written b b at []
-written-none b at = record { size = refl; low = λ i h. refl; here = λ i h. absurd (omega arith); high = λ i h. refl }
+pub written-none : {b : List ℕ} {at : ℕ} → Written b b at []
+written-none = record { size = refl; low = λ i h. refl; here = λ i h. absurd (omega arith); high = λ i h. refl }
 
 -- one byte more is written
-pub written-more : (b₀ b : List ℕ) (at : ℕ) (t : List ℕ) (j : ℕ) → j < length t → at + length t ≤ length b₀
-    → Written b₀ b at (take j t)
+pub written-more : {b₀ b : List ℕ} {at : ℕ} (t : List ℕ) (j : ℕ) → Written b₀ b at (take j t) → j < length t
+    → at + length t ≤ length b₀
     → Written b₀ (set b (at + j) (getD t j 0)) at (take (j + 1) t)
-written-more b₀ b at t j p q h =
+written-more {b₀} {b} {at} t j h p q =
     let a : length (take j t) ≡ j = length-take-le j t (omega arith) in
     let a′ : length (take (j + 1) t) ≡ j + 1 = length-take-le (j + 1) t (omega arith) in
     let s : at + j < length b = omega (arith, h .size) in
@@ -85,6 +92,6 @@ written-more b₀ b at t j p q h =
     }
 
 -- every byte is written
-pub written-all : (b₀ b : List ℕ) (at : ℕ) (t : List ℕ) (j : ℕ) → j ≡ length t → Written b₀ b at (take j t)
+pub written-all : {b₀ b : List ℕ} {at : ℕ} (t : List ℕ) (j : ℕ) → Written b₀ b at (take j t) → j ≡ length t
     → Written b₀ b at t
-written-all b₀ b at t j e h = subst (Written b₀ b at) (ap (λ (x : ℕ). take x t) e ∙ take-length t) h
+written-all {b₀} {b} {at} t j h e = subst (Written b₀ b at) (ap (λ (x : ℕ). take x t) e ∙ take-length t) h

@@ -16,7 +16,7 @@ use Rattle.buffer.proofs.Lent.Place.{AllBefore}
 use Rattle.buffer.specs.Insert.{Placed, Inserted}
 use Rattle.buffer.specs.Move.{MovedUp, MovedDown, Written}
 use Rattle.buffer.proofs.Lent.Strides.{row-end}
-use Rattle.buffer.proofs.Lent.Places.{mine, theirs, same-order, answer-same, answer-less}
+use Rattle.buffer.proofs.Lent.Places.{mine, theirs, same-order, answer-unique, answer-less}
 use Rattle.buffer.proofs.Lent.Inserting.{zero-front, one-more, one-less, other-coef}
 
 -- t's powers against those of the term at place i
@@ -30,8 +30,8 @@ pub there-same : (b t : List ℕ) (m i : ℕ) → 0 < length t → m * length t 
     → there b t i ≡ Ordering·eq
 there-same b t m i p f l h =
     let g : i * length t + length t ≤ length b = omega (arith, row-end i m (length t) l) in
-    sym (same-order b t (i * length t) p g) ∙ answer-same
-    (order (mine b t (i * length t) p g) (theirs b t (i * length t) p g)) h
+    sym (same-order b t (i * length t) p g) ∙ answer-unique
+    (order (mine b t (i * length t) p g) (theirs b t (i * length t) p g)) Ordering·eq h
 
 -- a comparison that says t comes first
 pub there-less : (b t : List ℕ) (m i : ℕ) → 0 < length t → m * length t ≤ length b → Placed b m t i → i < m

@@ -3,7 +3,8 @@
 use mathlib.Core.Path.{_≡_, refl, sym, ap, ap₂, _∙_, subst}
 use mathlib.Core.Logic.{_≢_}
 use mathlib.Core.List.{List, [], _∷_, _++_}
-use Prim.Native.Nat.{ℕ, suc, _+_, _*_, _-_, _≤_, _<_, zero-le, Ordering, Ordering·lt, Ordering·eq, Ordering·gt}
+use Prim.Native.Nat.{ℕ, zero, suc, _+_, _*_, _-_, _/_, _≤_, _<_, zero-le}
+use Prim.Native.Nat.{Ordering, Ordering·lt, Ordering·eq, Ordering·gt}
 use native.Mathlib.Omega.{arith}
 use native.Mathlib.Nat.{le-refl}
 use native.Mathlib.Numerals.{add-one}
@@ -16,21 +17,26 @@ use Rattle.poly.proofs.Laws.Order.{order-lt, order-gt, order-trans}
 use Rattle.poly.proofs.Laws.Normal.{powers-append, above-trans}
 use Rattle.buffer.proofs.Lent.Reads.{read-more, read-parts}
 use Rattle.buffer.proofs.Lent.Place.{AllBefore}
-use Rattle.buffer.specs.Insert.{Placed}
+use Rattle.buffer.proofs.Lent.Strides.{halfway, half-row}
+use Rattle.buffer.specs.Insert.{PlaceAsked, Placed}
 
 -- ---- the answer of a comparison
 
--- 2 is the answer of `gt`
-pub answer-more : (o : Ordering) → answer o ≡ 2 → o ≡ Ordering·gt
-answer-more Ordering·lt h = absurd (omega arith)
-answer-more Ordering·eq h = absurd (omega arith)
-answer-more Ordering·gt h = refl
+-- the order that an answer stands for
+abbrev ordering : ℕ → Ordering
+ordering zero = Ordering·lt
+ordering (suc zero) = Ordering·eq
+ordering (suc (suc x)) = Ordering·gt
 
--- 1 is the answer of `eq`
-pub answer-same : (o : Ordering) → answer o ≡ 1 → o ≡ Ordering·eq
-answer-same Ordering·lt h = absurd (omega arith)
-answer-same Ordering·eq h = refl
-answer-same Ordering·gt h = absurd (omega arith)
+-- it is the one that gave it
+ordering-answer : (o : Ordering) → ordering (answer o) ≡ o
+ordering-answer Ordering·lt = refl
+ordering-answer Ordering·eq = refl
+ordering-answer Ordering·gt = refl
+
+-- one answer, one order
+pub answer-unique : (o p : Ordering) → answer o ≡ answer p → o ≡ p
+answer-unique o p h = sym (ordering-answer o) ∙ ap ordering h ∙ ordering-answer p
 
 -- 0 is what is left
 pub answer-less : (o : Ordering) → answer o ≢ 1 → o ≢ Ordering·gt → o ≡ Ordering·lt
@@ -91,14 +97,16 @@ sorted-behind e (term c g ∷ p) d f q o s =
 
 -- the terms below low come before t, and the term at high does not
 pub record Between (b : List ℕ) (m : ℕ) (t : List ℕ) (low high : ℕ) : Type 0 where
+  pub asked : PlaceAsked b m t
   pub least : low ≤ high
   pub most : high ≤ m
   pub behind : AllBefore (drop 1 t) (readTerms (length t - 1) b 0 low)
   pub before : high < m → order (drop 1 t) (take (length t - 1) (drop (suc (high * length t)) b)) ≢ Ordering·gt
 
 -- at first nothing is known
-pub between-all : (b : List ℕ) (m : ℕ) (t : List ℕ) → Between b m t 0 m
-between-all b m t = record { least = zero-le; most = le-refl m; behind = tt; before = λ l. absurd (omega arith) }
+pub between-all : (b : List ℕ) (m : ℕ) (t : List ℕ) → PlaceAsked b m t → Between b m t 0 m
+between-all b m t a =
+    record { asked = a; least = zero-le; most = le-refl m; behind = tt; before = λ l. absurd (omega arith) }
 
 -- at last the place is found
 pub between-none : (b : List ℕ) (m : ℕ) (t : List ℕ) (low high : ℕ) → high ≤ low → Between b m t low high
@@ -112,27 +120,43 @@ between-none b m t low high l h =
           Ordering·gt) e (h .before);
     }
 
-module _ (b : List ℕ) (m : ℕ) (t : List ℕ) (low high i : ℕ) (h : Between b m t low high) (l : low ≤ i) (g : i < high)
-    (pos : 0 < length t) (fits : i * length t + length t ≤ length b) where
-  -- the answer of the comparison with the middle term
-  abbrev compared : ℕ
-  compared = answer (order (mine b t (i * length t) pos fits) (theirs b t (i * length t) pos fits))
+module _ (b : List ℕ) (m : ℕ) (t : List ℕ) (low high : ℕ) (g : low < high) (h : Between b m t low high) where
+  -- the number of the middle term
+  abbrev pub middle : ℕ
+  middle = low + (high - low) / 2
+
+  -- it stands in the buffer
+  pub middle-fits : middle * length t + length t ≤ length b
+  middle-fits = half-row low high m (length t) (length b) g (h .most) (h .asked .source)
+
+  -- its powers are as many as those of t
+  pub middle-lengths : length (mine b t (middle * length t) (h .asked .some) middle-fits)
+      ≡ length (theirs b t (middle * length t) (h .asked .some) middle-fits)
+  middle-lengths = same-lengths b t (middle * length t) (h .asked .some) middle-fits
+
+  -- the powers of t against those of the middle term
+  abbrev compared : Ordering
+  compared = order (mine b t (middle * length t) (h .asked .some) middle-fits)
+      (theirs b t (middle * length t) (h .asked .some) middle-fits)
 
   -- the middle term comes before t, and so all below it
-  pub between-up : Sorted (readTerms (length t - 1) b 0 m) → compared ≡ 2 → Between b m t (i + 1) high
-  between-up s c =
+  between-up : compared ≡ Ordering·gt → Between b m t (middle + 1) high
+  between-up c =
+      let i : ℕ = middle in
+      let u : i < high = halfway low high g in
       let n : ℕ = length t - 1 in
-      let w : suc n ≡ length t = omega arith in
+      let w : suc n ≡ length t = omega (arith, h .asked .some) in
       let a : 0 + i * suc n ≡ i * length t = ap (λ (x : ℕ). 0 + i * x) w ∙ omega arith in
       let o : order (drop 1 t) (take n (drop (suc (0 + i * suc n)) b)) ≡ Ordering·gt =
-      ap (λ (x : ℕ). order (drop 1 t) (take n (drop (suc x) b))) a ∙ sym (same-order b t (i * length t) pos fits)
-      ∙ answer-more (order (mine b t (i * length t) pos fits) (theirs b t (i * length t) pos fits)) c in
+      ap (λ (x : ℕ). order (drop 1 t) (take n (drop (suc x) b))) a
+      ∙ sym (same-order b t (i * length t) (h .asked .some) middle-fits) ∙ c in
       let r : m ≡ i + suc (m - suc i) = omega (arith, h .most) in
       let d : AllBefore (drop 1 t) (readTerms n b 0 i) =
       sorted-behind (drop 1 t) (readTerms n b 0 i) (getD b (0 + i * suc n) 0) (take n (drop (suc (0 + i * suc n)) b))
       (readTerms n b (0 + i * suc n + suc n) (m - suc i)) o
-      (subst Sorted (ap (readTerms n b 0) r ∙ read-parts n b 0 i (suc (m - suc i))) s) in
+      (subst Sorted (ap (readTerms n b 0) r ∙ read-parts n b 0 i (suc (m - suc i))) (h .asked .sorted)) in
       record {
+        asked = h .asked;
         least = omega arith;
         most = h .most;
         behind = subst (AllBefore (drop 1 t)) (sym (ap (readTerms n b 0) (add-one i) ∙ read-more n b 0 i))
@@ -142,10 +166,17 @@ module _ (b : List ℕ) (m : ℕ) (t : List ℕ) (low high i : ℕ) (h : Between
       }
 
   -- the middle term does not
-  pub between-down : (compared ≡ 2 → ⊥) → Between b m t low i
+  between-down : compared ≢ Ordering·gt → Between b m t low middle
   between-down c = record {
-    least = l;
-    most = omega (arith, h .most);
+    asked = h .asked;
+    least = omega arith;
+    most = omega (arith, h .most, halfway low high g);
     behind = h .behind;
-    before = λ _ q. c (ap answer (same-order b t (i * length t) pos fits ∙ q));
+    before = λ _ q. c (same-order b t (middle * length t) (h .asked .some) middle-fits ∙ q);
   }
+
+  -- what the answer of the comparison tells: 2 that the place is above the middle, any other that it is not
+  pub between-told : (r : ℕ) → r ≡ answer compared
+      → (r ≡ 2 → Between b m t (middle + 1) high) × (r ≢ 2 → Between b m t low middle)
+  between-told r e =
+      (λ s. between-up (answer-unique compared Ordering·gt (sym e ∙ s)), λ s. between-down (λ q. s (e ∙ ap answer q)))

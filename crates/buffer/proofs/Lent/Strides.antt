@@ -2,11 +2,20 @@
 use mathlib.Core.Path.{_≡_, refl, sym, ap, _∙_, subst}
 use Prim.Native.Nat.{ℕ, zero, suc, _+_, _-_, _*_, _/_, _≤_, _<_}
 use native.Mathlib.Nat.{suc-mul, mul-le-mul-right, mul-le-mul-left, mul-one, zero-lt-suc, not-suc-le-zero}
+use native.Mathlib.Numerals.{add-one}
 use native.Mathlib.Omega.{arith}
 
 -- the i-th row of m ends within them
 pub row-end : (i m w : ℕ) → i < m → i * w + w ≤ m * w
 row-end i m w h = subst (λ (x : ℕ). x ≤ m * w) (suc-mul i w) (mul-le-mul-right w h)
+
+-- the end of the i-th row
+pub next-row : (i w : ℕ) → (i + 1) * w ≡ i * w + w
+next-row i w = ap (λ (x : ℕ). x * w) (add-one i) ∙ suc-mul i w
+
+-- where the j-th row ends below len, one that is not behind it starts not behind it
+pub rows-below : (i j w len : ℕ) → i ≤ j → (j + 1) * w ≤ len → (j * w + w ≤ len) × (i * w ≤ j * w)
+rows-below i j w len l f = (omega (arith, next-row j w), mul-le-mul-right w l)
 
 -- rows that are not empty are no more than their bytes
 pub row-count : (m w : ℕ) → 0 < w → m ≤ m * w

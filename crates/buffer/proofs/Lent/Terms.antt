@@ -3,28 +3,42 @@ use mathlib.Core.Path.{_≡_, refl, sym, ap, ap₂, _∙_}
 use mathlib.Core.List.{List, [], _∷_}
 use Prim.Native.Nat.{ℕ, zero, suc, _+_, _-_, _≤_, _<_}
 use native.Mathlib.Omega.{arith}
-use native.Mathlib.Nat.{suc-inj, le-of-suc-le-suc}
-use lib.ListN.{length, getD, drop, set, length-set, length-drop}
-use lib.Seq.{ext-getD, getD-drop, getD-set-same, getD-set-other}
+use native.Mathlib.Decide.{decLe}
+use native.Mathlib.Nat.{le-of-suc-le-suc}
+use lib.ListN.{length, getD, take, drop, set, length-set, length-drop}
+use lib.Seq.{ext-getD, getD-drop, take-all, getD-set-same, getD-set-other}
 use Rattle.poly.specs.Poly.{reduce, addPows}
+use Rattle.buffer.specs.Move.{Written}
 use Rattle.buffer.proofs.Lent.Moves.{stored}
 
 -- ---- powers
 
--- as many powers as each factor has
-pub addPows-length : (e f : List ℕ) → length e ≡ length f → length (addPows e f) ≡ length e
-addPows-length [] [] h = refl
-addPows-length [] (b ∷ f) h = absurd (omega arith)
-addPows-length (a ∷ e) [] h = refl
-addPows-length (a ∷ e) (b ∷ f) h = ap suc (addPows-length e f (suc-inj h))
+-- where the first factor has no more powers, as many as the second has
+addPows-length : (e f : List ℕ) → length e ≤ length f → length (addPows e f) ≡ length f
+addPows-length [] f h = refl
+addPows-length (a ∷ e) [] h = absurd (omega arith)
+addPows-length (a ∷ e) (b ∷ f) h = ap suc (addPows-length e f (le-of-suc-le-suc h))
 
--- each power is the reduced sum
-pub addPows-at : (e f : List ℕ) (i : ℕ) → length e ≡ length f → i < length e
+-- each power that both have is the reduced sum
+addPows-both : (e f : List ℕ) (i : ℕ) → i < length e → length e ≤ length f
     → getD (addPows e f) i 0 ≡ reduce (getD e i 0 + getD f i 0)
-addPows-at [] f i h l = absurd (omega arith)
-addPows-at (a ∷ e) [] i h l = absurd (omega arith)
-addPows-at (a ∷ e) (b ∷ f) zero h l = refl
-addPows-at (a ∷ e) (b ∷ f) (suc i) h l = addPows-at e f i (suc-inj h) (le-of-suc-le-suc l)
+addPows-both [] f i l h = absurd (omega arith)
+addPows-both (a ∷ e) [] i l h = absurd (omega arith)
+addPows-both (a ∷ e) (b ∷ f) zero l h = refl
+addPows-both (a ∷ e) (b ∷ f) (suc i) l h = addPows-both e f i (le-of-suc-le-suc l) (le-of-suc-le-suc h)
+
+-- a power that the first lacks is the second's
+addPows-rest : (e f : List ℕ) (i : ℕ) → length e ≤ i → length e ≤ length f → getD (addPows e f) i 0 ≡ getD f i 0
+addPows-rest [] f i l h = refl
+addPows-rest (a ∷ e) [] i l h = absurd (omega arith)
+addPows-rest (a ∷ e) (b ∷ f) zero l h = absurd (omega arith)
+addPows-rest (a ∷ e) (b ∷ f) (suc i) l h = addPows-rest e f i (le-of-suc-le-suc l) (le-of-suc-le-suc h)
+
+-- a byte behind the first
+second : (p : List ℕ) (i : ℕ) → getD (drop 1 p) i 0 ≡ getD p (suc i) 0
+second p i =
+    let s : 1 + i ≡ suc i = omega arith in
+    getD-drop 1 p i 0 ∙ ap (λ (x : ℕ). getD p x 0) s
 
 -- ---- the loop: the coefficient c and the powers below j are written
 
@@ -54,23 +68,43 @@ begun-more p q t₀ t c j v l g e h = record {
       (λ n. h .powers i k (omega arith));
 }
 
--- at last the product stands there
-pub begun-all : (p q t₀ t : List ℕ) (c j : ℕ) → 0 < length t₀ → length p ≡ length t₀ → length q ≡ length t₀
-    → length t ≤ j
-    → Begun p q t₀ t c j → t ≡ c ∷ addPows (drop 1 p) (drop 1 q)
-begun-all p q t₀ t c j pos lp lq g h =
-    let e : length (drop 1 p) ≡ length t - 1 = omega (arith, length-drop 1 p, h .size) in
-    let f : length (drop 1 q) ≡ length t - 1 = omega (arith, length-drop 1 q, h .size) in
-    let s : length (addPows (drop 1 p) (drop 1 q)) ≡ length t - 1 = addPows-length (drop 1 p) (drop 1 q) (e ∙ sym f)
-    ∙ e in
-    ext-getD 0 t (c ∷ addPows (drop 1 p) (drop 1 q)) (omega (arith, h .size)) (λ i l. at i l e f)
-  where
-    at : (i : ℕ) → i < length t → length (drop 1 p) ≡ length t - 1 → length (drop 1 q) ≡ length t - 1
-        → getD t i 0 ≡ getD (c ∷ addPows (drop 1 p) (drop 1 q)) i 0
-    at zero l e f = h .first
-    at (suc i) l e f =
-        let s : 1 + i ≡ suc i = omega arith in
-        h .powers (suc i) (omega arith) (omega arith)
-        ∙ sym (addPows-at (drop 1 p) (drop 1 q) i (e ∙ sym f) (omega arith)
-        ∙ ap₂ (λ (x y : ℕ). reduce (x + y)) (getD-drop 1 p i 0 ∙ ap (λ (x : ℕ). getD p x 0) s)
-        (getD-drop 1 q i 0 ∙ ap (λ (x : ℕ). getD q x 0) s))
+-- every power that p has is written, and those of q that p lacks are copied behind them
+module _ {p q t₀ t t′ : List ℕ} {c j : ℕ} (h : Begun p q t₀ t c j)
+    (g : Written t t′ j (take (length q - j) (drop j q)))
+    (some : 0 < j) (all : j ≡ length p) (within : length p ≤ length q) (same : length q ≡ length t₀) where
+  -- the powers of p are no more than those of q
+  fewer : length (drop 1 p) ≤ length (drop 1 q)
+  fewer = omega (arith, length-drop 1 p, length-drop 1 q)
+
+  -- a byte that was copied
+  copied : (i : ℕ) → j ≤ i → i < length q → getD t′ i 0 ≡ getD q i 0
+  copied i k l =
+      let x : i ≡ j + (i - j) = omega arith in
+      let r : take (length q - j) (drop j q) ≡ drop j q =
+      take-all (length q - j) (drop j q) (omega (arith, length-drop j q)) in
+      ap (λ (y : ℕ). getD t′ y 0) x
+      ∙ g .here (i - j) (omega (arith, ap length r, length-drop j q))
+      ∙ ap (λ (y : List ℕ). getD y (i - j) 0) r ∙ getD-drop j q (i - j) 0
+      ∙ sym (ap (λ (y : ℕ). getD q y 0) x)
+
+  -- each power is that of the product
+  power-at : (i : ℕ) → suc i < length q → Dec (suc i < j)
+      → getD t′ (suc i) 0 ≡ getD (addPows (drop 1 p) (drop 1 q)) i 0
+  power-at i l (yes k) =
+      g .low (suc i) k ∙ h .powers (suc i) (omega arith) k
+      ∙ sym (addPows-both (drop 1 p) (drop 1 q) i (omega (arith, length-drop 1 p)) fewer
+      ∙ ap₂ (λ (x y : ℕ). reduce (x + y)) (second p i) (second q i))
+  power-at i l (no k) =
+      copied (suc i) (omega arith) l
+      ∙ sym (addPows-rest (drop 1 p) (drop 1 q) i (omega (arith, length-drop 1 p)) fewer ∙ second q i)
+
+  -- each byte is that of the product
+  byte-at : (i : ℕ) → i < length t′ → getD t′ i 0 ≡ getD (c ∷ addPows (drop 1 p) (drop 1 q)) i 0
+  byte-at zero l = g .low 0 some ∙ h .first
+  byte-at (suc i) l = power-at i (omega (arith, g .size, h .size)) (decLe (suc (suc i)) j)
+
+  -- at last the product stands there
+  pub begun-all : t′ ≡ c ∷ addPows (drop 1 p) (drop 1 q)
+  begun-all =
+      ext-getD 0 t′ (c ∷ addPows (drop 1 p) (drop 1 q))
+      (omega (arith, g .size, h .size, addPows-length (drop 1 p) (drop 1 q) fewer, length-drop 1 q)) byte-at

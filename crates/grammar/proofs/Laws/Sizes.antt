@@ -1,29 +1,28 @@
 -- How many bytes the word and the fields of a line have, and what its pieces weigh. Assumes nothing.
-use Prim.Native.Nat.{ℕ, suc, _+_, _*_, _≤_}
+use Prim.Native.Nat.{ℕ, zero, suc, _+_, _*_, _≤_, _<_}
 use native.Mathlib.Omega.{arith}
 use mathlib.Core.Path.{_≡_, refl, ap, subst}
-use mathlib.Core.Bool.{Bool, true, false, _&&_, cond}
+use mathlib.Core.Bool.{true, _&&_}
 use mathlib.Core.List.{List, [], _∷_}
 use mathlib.Core.Option.{Option, some}
 use lib.Dec.{ltb, eqb}
-use lib.ListN.{length, drop, getD}
+use lib.ListN.{length, drop, getD, drop-of-length-le}
+use lib.Seq.{drop-cons}
 use borrow.Author.Tests.{eqb-true}
 use Rattle.tokens.specs.declared.word.Word.{Word}
 use Rattle.tokens.specs.declared.word.Word.the-variants.{Shares, Map, Input, Origin, Set, Xor, Mul, App, Let, Rand}
 use Rattle.tokens.specs.declared.word.Word.the-variants.{Result, Masked, Output, Unknown}
-use Rattle.tokens.specs.Ascii.{ascii, sameBytes, within}
+use Rattle.tokens.specs.Ascii.{ascii, within}
 use Rattle.tokens.specs.Byte.{Each}
-use Rattle.tokens.specs.Limits.{columnCount, mostShares}
 use Rattle.tokens.specs.Token.{_>>=_, Name, Term, hexDigit, readName, readPlain, readHex, readCount, readTerm}
-use Rattle.tokens.specs.Word.{wordOf, statementWord}
+use Rattle.tokens.specs.Word.{words, wordOf}
 use Rattle.tokens.proofs.Laws.Flags.{and-true}
 use Rattle.tokens.proofs.Laws.Some.{some-same, provided-some, bind-some}
 use Rattle.tokens.proofs.Laws.Joined.{weight}
-use Rattle.tokens.proofs.Laws.Numbered.{bytes-same}
+use Rattle.tokens.proofs.Laws.Word.{spelt-each}
 use Rattle.tokens.proofs.Laws.Written.{Named, name-written, plain-written}
 use Rattle.tokens.proofs.Laws.Terms.{Termed, term-written}
-use Rattle.grammar.specs.Record.{set, xor, mul, app, rand, shares, map, input, origin, result, masked, output}
-use Rattle.grammar.specs.Record.{each, field}
+use Rattle.grammar.specs.Record.{each, field, fields}
 use Rattle.grammar.proofs.Laws.Written.{Mapped}
 
 -- ---- words
@@ -45,29 +44,12 @@ Spells Masked p = length p ≡ 6
 Spells Output p = length p ≡ 6
 Spells Unknown p = Unit {0}
 
-pick : (P : Word → Type 0) (b : Bool) (w v : Word) → (b ≡ true → P w) → P v → P (cond b w v)
-pick P true w v h k = h refl
-pick P false w v h k = k
-
--- the first word that the bytes spell has as many
+-- the word that the bytes spell has as many
 pub word-spells : (p : List ℕ) → Spells (wordOf p) p
-unfolding wordOf statementWord ascii
+unfolding wordOf words ascii
 word-spells p =
-    let P : Word → Type 0 = λ w. Spells w p in
-    let size : (q : List ℕ) → sameBytes p q ≡ true → length p ≡ length q = λ q h. ap length (bytes-same p q h) in
-    pick P _ Shares _ (size (ascii "shares"))
-    (pick P _ Map _ (size (ascii "map"))
-    (pick P _ Input _ (size (ascii "input"))
-    (pick P _ Origin _ (size (ascii "origin"))
-    (pick P _ Result _ (size (ascii "result"))
-    (pick P _ Masked _ (size (ascii "masked"))
-    (pick P _ Output _ (size (ascii "output"))
-    (pick P _ Set _ (size (ascii "set"))
-    (pick P _ Xor _ (size (ascii "xor"))
-    (pick P _ Mul _ (size (ascii "mul"))
-    (pick P _ App _ (size (ascii "app"))
-    (pick P _ Let _ (size (ascii "let"))
-    (pick P _ Rand Unknown (size (ascii "rand")) tt))))))))))))
+    spelt-each Unknown p Spells tt words
+    (refl, (refl, (refl, (refl, (refl, (refl, (refl, (refl, (refl, (refl, (refl, (refl, (refl, tt)))))))))))))
 
 -- ---- fields
 
@@ -120,57 +102,29 @@ each-size f P c h (p ∷ ps) l e =
     mul-next : (c n : ℕ) → (c + 1) * suc n ≡ (c + 1) * n + (c + 1)
     mul-next c n = omega arith
 
--- ---- pieces, by their number
+-- ---- pieces
 
--- a word alone
-pub weight-one : (ps : List (List ℕ)) → length ps ≡ 0 + 1 → weight ps ≡ length (field 0 ps) + 1
-unfolding weight
-weight-one [] h = absurd (omega arith)
-weight-one (a ∷ []) h = omega arith
-weight-one (a ∷ b ∷ ps) h = absurd (omega arith)
+-- the bytes of the word and of n fields, one more for each
+abbrev pub frontWeight : ℕ → List (List ℕ) → ℕ
+frontWeight zero ps = length (field 0 ps) + 1
+frontWeight (suc n) ps = frontWeight n ps + (length (field (suc n) ps) + 1)
 
--- one field
-pub weight-two : (ps : List (List ℕ)) → length ps ≡ 1 + 1 → weight ps ≡ length (field 0 ps) + length (field 1 ps) + 2
+-- the word and n fields, and what stands behind them
+pub weight-front : (n : ℕ) (ps : List (List ℕ)) → n < length ps
+    → weight ps ≡ frontWeight n ps + weight (drop (suc n) ps)
 unfolding weight
-weight-two [] h = absurd (omega arith)
-weight-two (a ∷ []) h = absurd (omega arith)
-weight-two (a ∷ b ∷ []) h = omega arith
-weight-two (a ∷ b ∷ c ∷ ps) h = absurd (omega arith)
+weight-front zero [] h = absurd (omega arith)
+weight-front zero (p ∷ ps) h = refl
+weight-front (suc n) ps h =
+    let here : weight (drop (suc n) ps) ≡ length (field (suc n) ps) + 1 + weight (drop (suc (suc n)) ps) =
+    ap weight (drop-cons ps (suc n) [] h) in
+    omega (arith, weight-front n ps (omega arith), here)
 
--- two fields
-pub weight-three : (ps : List (List ℕ)) → length ps ≡ 2 + 1
-    → weight ps ≡ length (field 0 ps) + length (field 1 ps) + length (field 2 ps) + 3
+-- the word and n fields alone
+pub weight-whole : (n : ℕ) (ps : List (List ℕ)) → fields n (length ps) ≡ true → weight ps ≡ frontWeight n ps
 unfolding weight
-weight-three [] h = absurd (omega arith)
-weight-three (a ∷ []) h = absurd (omega arith)
-weight-three (a ∷ b ∷ []) h = absurd (omega arith)
-weight-three (a ∷ b ∷ c ∷ []) h = omega arith
-weight-three (a ∷ b ∷ c ∷ d ∷ ps) h = absurd (omega arith)
-
--- three fields
-pub weight-four : (ps : List (List ℕ)) → length ps ≡ 3 + 1
-    → weight ps ≡ length (field 0 ps) + length (field 1 ps) + length (field 2 ps) + length (field 3 ps) + 4
-unfolding weight
-weight-four [] h = absurd (omega arith)
-weight-four (a ∷ []) h = absurd (omega arith)
-weight-four (a ∷ b ∷ []) h = absurd (omega arith)
-weight-four (a ∷ b ∷ c ∷ []) h = absurd (omega arith)
-weight-four (a ∷ b ∷ c ∷ d ∷ []) h = omega arith
-weight-four (a ∷ b ∷ c ∷ d ∷ e ∷ ps) h = absurd (omega arith)
-
--- the pieces of a map line
-pub weight-map : (ps : List (List ℕ)) → length ps ≡ 2 + columnCount + 1
-    → (weight ps ≡ length (field 0 ps) + length (field 1 ps) + length (field 2 ps) + 3 + weight (drop 3 ps))
-    × (length (drop 3 ps) ≡ 8)
-unfolding weight
-weight-map [] h = absurd (omega arith)
-weight-map (a ∷ []) h = absurd (omega arith)
-weight-map (a ∷ b ∷ []) h = absurd (omega arith)
-weight-map (a ∷ b ∷ c ∷ ps) h = (omega arith, omega arith)
-
--- the pieces of an output line
-pub weight-list : (ps : List (List ℕ)) → 2 ≤ length ps → length ps ≤ mostShares + 1
-    → (weight ps ≡ length (field 0 ps) + 1 + weight (drop 1 ps)) × (length (drop 1 ps) ≤ 8)
-unfolding weight
-weight-list [] h k = absurd (omega arith)
-weight-list (a ∷ ps) h k = (omega arith, omega arith)
+weight-whole n ps e =
+    let size : length ps ≡ n + 1 = eqb-true (length ps) (n + 1) e in
+    let short : length ps ≤ suc n = omega arith in
+    let none : weight (drop (suc n) ps) ≡ 0 = ap weight (drop-of-length-le ps short) in
+    omega (arith, weight-front n ps (omega arith), none)

@@ -1,9 +1,9 @@
 -- Judge of a routine and of a text: the lent buffers, and each refusal.
 -- Assumes nothing.
-use mathlib.Core.Path.{_≡_, refl, sym, ap, ap₂, _∙_, subst}
+use mathlib.Core.Path.{_≡_, refl, sym, ap, ap₂, _∙_}
 use Prim.Native.Nat.{ℕ, _-_, _≤_, _<_}
 use native.Mathlib.Omega.{arith}
-use borrow.Author.Tests.{lt-ltb, le-ltb, eq-eqb, ne-eqb}
+use borrow.Author.Tests.{lt-ltb, le-ltb, ne-eqb}
 use mathlib.Core.Bool.{Bool, true, false, _||_, cond}
 use mathlib.Core.List.{List, [], _∷_, _++_}
 use mathlib.Core.Option.{Option, none, some}
@@ -15,10 +15,7 @@ use Rattle.text.specs.declared.read.Reading as answer
 use Rattle.rules.specs.Read.{Routine, Reading, readText}
 use Rattle.text.specs.Routine.{routineOf}
 use Rattle.text.specs.Reading.{readingOf, ReadingIs}
-use Rattle.rules.specs.Ranged.{Ranged}
-use Rattle.rules.proofs.Laws.Keeping.{Accepts}
-use Rattle.rules.proofs.Laws.Ranged.{read-ranged}
-use Rattle.text.proofs.Laws.Counts.{reading-formed, reading-counted}
+use Rattle.text.proofs.Laws.Counts.{reading-accepted, reading-formed, reading-ranged, reading-counted}
 use Rattle.verdict.specs.declared.report.Report.{Report}
 use Rattle.verdict.specs.Instances.{symbolic, difference}
 use Rattle.verdict.specs.Count.{unknownLine}
@@ -119,18 +116,12 @@ module _ {text left right list : List ℕ} {a : Report} where
 -- ---- the text is read
 
 module _ (text : List ℕ) {d : answer.Reading} (R : ReadingIs d (readText text)) (z : d .refusal ≡ 0) where
-  read-accepted : readingOf d ≡ Reading.accepted (routineOf (d .routine))
-  unfolding readingOf
-  read-accepted =
-      ap (λ (b : Bool). cond b (Reading.accepted (routineOf (d .routine))) (Reading.refused (d .refusal) (d .line)))
-      (eq-eqb (d .refusal) 0 z)
-
   -- what reading gives of the routine of an accepted text
   pub read-ready : Ready (d .routine)
   read-ready = record {
     counted = reading-counted text d R z;
     formed = reading-formed text d R z;
-    ranged = subst (λ (x : Reading). Accepts Ranged x) (sym (R .answer) ∙ read-accepted) (read-ranged text);
+    ranged = reading-ranged text d R z;
   }
 
 came-read : (text : List ℕ) {left right list : List ℕ} → Long left right list → {d : answer.Reading}
@@ -165,7 +156,7 @@ module _ {text left right list : List ℕ} (L : Long left right list) {d : answe
   judged-routine z J =
       let r = routineOf (d .routine) in
       let e : judgeRoutine r ≡ cameOf text left right list = sym (came-read text L R
-      ∙ ap judgeReading (read-accepted text R z)) in
+      ∙ ap judgeReading (reading-accepted d z)) in
       record {
         answered = J .decided .answered ∙ ap report e;
         worked = J .worked ∙ sym (work-zeroed r left) ∙ ap (λ (o : Outcome). workAfter o left) e;

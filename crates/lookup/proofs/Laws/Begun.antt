@@ -20,9 +20,9 @@ use Rattle.rules.specs.declared.types.Op.the-variants as Op
 use Rattle.lookup.specs.declared.compile.Compiled.{Compiled}
 use Rattle.rules.specs.Limits.{mostStatements}
 use Rattle.rules.specs.Scope.{unknownFormula, valueOf, compiled}
-use Rattle.lookup.specs.Compiled.{compiledOf, operated}
+use Rattle.lookup.specs.Found.{operated}
 use Rattle.lookup.specs.Coded.{putOp, written}
-use Rattle.lookup.specs.Compiled.{CompileIs, Compiles, Room}
+use Rattle.lookup.specs.Compiled.{compiledOf, CompileIs, Compiles, Room}
 use Rattle.rules.proofs.Laws.Letting.{compiled-length}
 use Rattle.lookup.proofs.Laws.Parts.{past-some}
 

@@ -22,9 +22,9 @@ use Rattle.rules.specs.declared.types.Operand.the-variants.{Place}
 use Rattle.rules.specs.declared.types.Op.the-variants as Op
 use Rattle.lookup.specs.declared.compile.Compiled.{Compiled}
 use Rattle.rules.specs.Limits.{mostStatements}
-use Rattle.rules.specs.Scope.{placeOf, missing, unknownFormula, valueOf, compiled}
-use Rattle.lookup.specs.Found.{joined, termFound, mapFound}
-use Rattle.lookup.specs.Compiled.{compiledOf, MapLooked, TermLooked, operated}
+use Rattle.rules.specs.Scope.{placeOf, missing, unknownTerm, operandIn, unknownFormula, valueOf, compiled}
+use Rattle.lookup.specs.Found.{joined, operated, termFound, asTerm}
+use Rattle.lookup.specs.Compiled.{compiledOf, MapLooked, TermLooked}
 use Rattle.lookup.specs.Coded.{written}
 use Rattle.lookup.specs.Compiled.{CompileIs, Compiles, Room}
 use Rattle.grammar.proofs.Laws.Formula.{parsed-level}
@@ -159,7 +159,7 @@ module _ (ms maps : List Name) (base at k mark : ℕ) (f entry mid : List ℕ) (
   pub image-begun : operationAt (drop at f) ≡ Operation.Image → mark < length f
       → MapLooked maps f (mark + 1) k x → mid ≡ entry
       → Begun ms maps base at k f entry mid x Operation.Image
-  unfolding mapAt readPlain mapFound operations unknownFormula valueOf compiled written
+  unfolding mapAt readPlain termFound unknownTerm operandIn operations unknownFormula valueOf compiled written
   image-begun q l c m =
       let r = image-view q in
       let P = r .3 in
@@ -169,7 +169,7 @@ module _ (ms maps : List Name) (base at k mark : ℕ) (f entry mid : List ℕ) (
       let N : readName (front s) ≡ some g = plain-named (front s) g (readName (front s)) (M .0) in
       let end : ℕ = mark + 1 + until isMark s in
       let X : x ≡ compiledOf end (missing maps g) (Place (placeOf g maps)) k =
-      c ∙ ap (λ (o : Option Name). compiledOf end (mapFound maps o .unknown) (Place (mapFound maps o .place)) k) N in
+      c ∙ ap (λ (o : Option Name). let z = termFound maps (asTerm o) in compiledOf end (z .unknown) (z .operand) k) N in
       let xe : x .end ≡ end = ap (λ (z : Compiled). z .end) X in
       let n : base + k + 0 ≡ base + k = omega arith in
       record {

@@ -1,9 +1,9 @@
 -- What is found for the operands of a statement, put together. v is the next variable.
 -- Assumes nothing.
-use Prim.Native.Nat.{ℕ}
+use Prim.Native.Nat.{ℕ, _≤_}
 use native.Mathlib.Omega.{arith}
 use mathlib.Core.Path.{_≡_, refl, sym, _∙_, ap}
-use mathlib.Core.Bool.{Bool, true, false, _&&_, _||_}
+use mathlib.Core.Bool.{true, false}
 use mathlib.Core.List.{List}
 use mathlib.Core.Option.{Option, none, some}
 use Rattle.grammar.specs.declared.line.NameRef.{NameRef}
@@ -11,6 +11,8 @@ use Rattle.grammar.specs.declared.line.NameRead.{NameRead}
 use Rattle.grammar.specs.declared.line.NameRead.the-variants as NameRead
 use Rattle.grammar.specs.declared.line.TermRead.{TermRead}
 use Rattle.grammar.specs.declared.line.TermRead.the-variants as TermRead
+use Rattle.grammar.specs.declared.formula.Operation.{Operation}
+use Rattle.grammar.specs.declared.formula.Operation.the-variants as Operation
 use Rattle.grammar.specs.declared.record.Binary.{Binary}
 use Rattle.grammar.specs.declared.record.Binary.the-variants.{Xor, Mul}
 use Rattle.grammar.specs.declared.record.FormRead.{FormRead}
@@ -25,12 +27,10 @@ use Rattle.rules.specs.declared.types.Op.the-variants as Op
 use Rattle.lookup.specs.declared.names.Names.{Names}
 use Rattle.lookup.specs.declared.scope.NameFound.{NameFound}
 use Rattle.lookup.specs.declared.scope.TermFound.{TermFound}
-use Rattle.lookup.specs.declared.scope.TwoFound.{TwoFound}
-use Rattle.lookup.specs.declared.scope.MapFound.{MapFound}
 use Rattle.lookup.specs.declared.scope.FormFound.{FormFound}
 use Rattle.rules.specs.Scope.{unknownTerm, operandIn, unknownForm, opIn, drawn}
 use Rattle.lookup.specs.Names.{namesIn}
-use Rattle.lookup.specs.Found.{nameFound, termFound, twoFound, mapFound, joined, formTold, toldIn, FormIs}
+use Rattle.lookup.specs.Found.{nameFound, termFound, asTerm, pairFound, PairIs, formTold, toldIn, FormIs}
 
 -- ---- names and operands
 
@@ -56,32 +56,11 @@ module _ (s : List ℕ) (ms : List Name) {a : TermRead} where
   unfolding termFound
   term-bad e = ap (λ (y : TermRead). termFound ms (termAt s y)) (sym e)
 
-module _ (s : List ℕ) (ms : List Name) {f : NameRead} where
-  -- a map's name
-  pub map-name : (n : NameRef) → f ≡ NameRead.Name n → {x : NameFound} → x ≡ nameFound ms (nameIn s n)
-      → _≡_ {A = MapFound} (record { ok = true; unknown = x .unknown; place = x .place }) (mapFound ms (nameAt s f))
-  unfolding nameFound mapFound
-  map-name n e q =
-      (λ i. record { ok = true; unknown = q i .unknown; place = q i .place })
-      ∙ ap (λ (y : NameRead). mapFound ms (nameAt s y)) (sym e)
-
-  -- no name
-  pub map-bad : f ≡ NameRead.Bad
-      → _≡_ {A = MapFound} (record { ok = false; unknown = false; place = 0 }) (mapFound ms (nameAt s f))
-  unfolding mapFound
-  map-bad e = ap (λ (y : NameRead). mapFound ms (nameAt s y)) (sym e)
-
 -- ---- forms
 
 -- the form made of what was found
 abbrev setOf : TermFound → FormFound
 setOf x = record { ok = x .ok; unknown = x .unknown; op = Op.Set (x .operand); drawn = 0 }
-
-abbrev twoOf : TwoFound → Op → FormFound
-twoOf x op = record { ok = x .ok; unknown = x .unknown; op = op; drawn = 0 }
-
-abbrev appOf : MapFound → TermFound → Bool → Bool → FormFound
-appOf x y ok unknown = record { ok = ok; unknown = unknown; op = Op.App (x .place) (y .operand); drawn = 0 }
 
 module _ (ms maps : List Name) (v : ℕ) where
   set-read : (o : Option Term) → toldIn (setOf (termFound ms o)) ≡ formTold ms maps v (o >>= λ x. some (set x))
@@ -89,39 +68,31 @@ module _ (ms maps : List Name) (v : ℕ) where
   set-read none = refl
   set-read (some x) = refl
 
-  two-read : (o p : Option Term) (f : Binary) → let w = twoFound (termFound ms o) (termFound ms p) in
-      toldIn (twoOf w (joined f (w .left) (w .right))) ≡ formTold ms maps v (o >>= λ x. p >>= λ y. some (binary f x y))
-  unfolding toldIn formTold termFound twoFound unknownForm opIn drawn
+  two-read : (o p : Option Term) (f : Binary)
+      → toldIn (pairFound (Operation.Two f) (termFound ms o) (termFound ms p))
+      ≡ formTold ms maps v (o >>= λ x. p >>= λ y. some (binary f x y))
+  unfolding toldIn formTold termFound pairFound unknownForm opIn drawn
   two-read none none f = refl
   two-read none (some y) f = refl
   two-read (some x) none f = refl
   two-read (some x) (some y) Xor = refl
   two-read (some x) (some y) Mul = refl
 
-  app-read : (o : Option Name) (p : Option Term) → let x = mapFound maps o in let y = termFound ms p in
-      toldIn (appOf x y (x .ok && y .ok) (x .unknown || y .unknown))
+  app-read : (o : Option Name) (p : Option Term)
+      → toldIn (pairFound Operation.Image (termFound maps (asTerm o)) (termFound ms p))
       ≡ formTold ms maps v (o >>= λ g. p >>= λ a. some (app g a))
-  unfolding toldIn formTold termFound mapFound unknownForm opIn drawn
+  unfolding toldIn formTold termFound unknownTerm operandIn pairFound unknownForm opIn drawn
   app-read none none = refl
   app-read none (some y) = refl
   app-read (some x) none = refl
   app-read (some x) (some y) = refl
 
-module _ (s t : List ℕ) (ns maps : Names) (v : ℕ) where
-  -- `app`, from its map and its operand
-  pub app-found : (g : NameRead) (a : TermRead) {x : MapFound} {y : TermFound} {p q : Bool}
-      → p ≡ x .ok && y .ok → q ≡ x .unknown || y .unknown
-      → x ≡ mapFound (namesIn s t maps) (nameAt s g) → y ≡ termFound (namesIn s t ns) (termAt s a)
-      → FormIs s t ns maps v (FormRead.App g a) (appOf x y p q)
-  app-found g a {x = x} {y = y} h k l r =
-      record {
-        few = omega arith;
-        told =
-            (λ i. toldIn (appOf x y (h i) (k i)))
-            ∙ (λ i. toldIn (appOf (l i) (r i) (l i .ok && r i .ok) (l i .unknown || r i .unknown)))
-            ∙ app-read (namesIn s t ns) (namesIn s t maps) v (nameAt s g) (termAt s a);
-      }
+-- an operation on two operands draws no variable
+pair-few : (o : Operation) (x y : TermFound) {r : FormFound} → r ≡ pairFound o x y → r .drawn ≤ 1
+unfolding pairFound
+pair-few o x y q = omega (arith, ap (λ (z : FormFound). z .drawn) q)
 
+module _ (s t : List ℕ) (ns maps : Names) (v : ℕ) where
   module _ {f : FormRead} where
     -- the form is known
     pub form-known : {g : FormRead} {r : FormFound} → f ≡ g → FormIs s t ns maps v g r → FormIs s t ns maps v f r
@@ -144,17 +115,28 @@ module _ (s t : List ℕ) (ns maps : Names) (v : ℕ) where
         })
 
     -- `xor` and `mul`, from their operands
-    pub two-found : (g : Binary) (a b : TermRead) → f ≡ FormRead.Two g a b → {x : TwoFound} {op : Op}
-        → x ≡ twoFound (termFound (namesIn s t ns) (termAt s a)) (termFound (namesIn s t ns) (termAt s b))
-        → op ≡ joined g (x .left) (x .right) → FormIs s t ns maps v f (twoOf x op)
-    two-found g a b e {x = x} q o =
+    pub two-found : (g : Binary) (a b : TermRead) → f ≡ FormRead.Two g a b
+        → {r : FormFound} → PairIs s t ns ns (Operation.Two g) a b r → FormIs s t ns maps v f r
+    two-found g a b e q =
         form-known e
         (record {
-          few = omega arith;
+          few = pair-few _ _ _ q;
+          told = ap toldIn q ∙ two-read (namesIn s t ns) (namesIn s t maps) v (termAt s a) (termAt s b) g;
+        })
+
+    -- `app`, from its map and its operand
+    pub app-found : (g : NameRead) (a : TermRead) → f ≡ FormRead.App g a
+        → (x : TermRead) → termAt s x ≡ asTerm (nameAt s g)
+        → {r : FormFound} → PairIs s t maps ns Operation.Image x a r → FormIs s t ns maps v f r
+    app-found g a e x h q =
+        let y = termFound (namesIn s t ns) (termAt s a) in
+        form-known e
+        (record {
+          few = pair-few _ _ _ q;
           told =
-              ap (λ (p : Op). toldIn (twoOf x p)) o
-              ∙ ap (λ (y : TwoFound). toldIn (twoOf y (joined g (y .left) (y .right)))) q
-              ∙ two-read (namesIn s t ns) (namesIn s t maps) v (termAt s a) (termAt s b) g;
+              ap toldIn q
+              ∙ ap (λ (o : Option Term). toldIn (pairFound Operation.Image (termFound (namesIn s t maps) o) y)) h
+              ∙ app-read (namesIn s t ns) (namesIn s t maps) v (nameAt s g) (termAt s a);
         })
 
     -- `rand`

@@ -15,12 +15,10 @@ use Rattle.grammar.specs.declared.line.NameRead.{NameRead}
 use Rattle.grammar.specs.declared.line.TermRead.{TermRead}
 use Rattle.grammar.specs.Line.{nameAt, termAt}
 use Rattle.grammar.specs.Formula.{operand, front}
-use Rattle.rules.specs.declared.types.Operand.the-variants.{Place}
 use Rattle.rules.specs.declared.types.Op.the-variants as Op
 use Rattle.lookup.specs.declared.scope.TermFound.{TermFound}
-use Rattle.lookup.specs.declared.scope.MapFound.{MapFound}
 use Rattle.lookup.specs.declared.compile.Lookup.{Lookup}
-use Rattle.lookup.specs.Found.{termFound, mapFound}
+use Rattle.lookup.specs.Found.{termFound, asTerm}
 use Rattle.lookup.specs.Compiled.{setIn, mapsIn, compiledOf, MapLooked, TermLooked}
 use Rattle.lookup.specs.Compiled.{Looks}
 
@@ -49,14 +47,15 @@ term-looked s t f w at mark k L h m a e q =
 -- the name of a map from a place of the field to the first mark
 pub map-looked : (s t f : List ℕ) (w : Lookup) (at k mark : ℕ) → Looks s f w → at ≤ length f
     → mark ≡ at + until isMark (drop at f)
-    → (a : NameRead) → nameAt s a ≡ readName (take (mark - at) (drop (w .from + at) s))
-    → {g : MapFound} → g ≡ mapFound (mapsIn s t w) (nameAt s a)
-    → MapLooked (mapsIn s t w) f at k (compiledOf mark (g .unknown) (Place (g .place)) k)
-map-looked s t f w at k mark L h e a p q =
+    → (n : NameRead) → nameAt s n ≡ readName (take (mark - at) (drop (w .from + at) s))
+    → (a : TermRead) → termAt s a ≡ asTerm (nameAt s n)
+    → {x : TermFound} → x ≡ termFound (mapsIn s t w) (termAt s a)
+    → MapLooked (mapsIn s t w) f at k (compiledOf mark (x .unknown) (x .operand) k)
+map-looked s t f w at k mark L h e n p a r q =
     let inside : mark ≤ length f = omega (arith, until-le isMark (drop at f), length-drop at f) in
-    let n : mark - at ≡ until isMark (drop at f) = omega arith in
-    let u = q ∙ ap (mapFound (mapsIn s t w)) (p ∙ ap readName (part-here s f w L at (mark - at) (omega arith)
-    ∙ ap (λ (i : ℕ). take i (drop at f)) n)) in
-    let v : MapFound = mapFound (mapsIn s t w) (readName (front (drop at f))) in
-    ap (λ (g : MapFound). compiledOf mark (g .unknown) (Place (g .place)) k) u
-    ∙ ap (λ (i : ℕ). compiledOf i (v .unknown) (Place (v .place)) k) e
+    let long : mark - at ≡ until isMark (drop at f) = omega arith in
+    let u = q ∙ ap (termFound (mapsIn s t w)) (r ∙ ap asTerm (p ∙ ap readName (part-here s f w L at (mark - at)
+    (omega arith) ∙ ap (λ (i : ℕ). take i (drop at f)) long))) in
+    let v : TermFound = termFound (mapsIn s t w) (asTerm (readName (front (drop at f)))) in
+    ap (λ (x : TermFound). compiledOf mark (x .unknown) (x .operand) k) u
+    ∙ ap (λ (i : ℕ). compiledOf i (v .unknown) (v .operand) k) e

@@ -5,11 +5,13 @@ use Prim.Native.Nat.{ℕ, zero, suc, _+_, _*_, _≤_, _<_}
 use native.Mathlib.Omega.{arith}
 use native.Mathlib.Numerals.{add-one}
 use mathlib.Core.Path.{_≡_, refl, _∙_, ap}
-use mathlib.Core.List.{List, [], _∷_, _++_, map}
+use mathlib.Core.List.{List, [], _∷_, _++_}
 use lib.ListN.{length, take, getD, length-set, length-map, List·getD-map}
 use lib.Seq.{getD-set-same, getD-set-other, length-take-le, getD-take}
 use Rattle.grammar.specs.declared.line.NameRef.{NameRef}
 use Rattle.tokens.specs.Token.{Name}
+use Rattle.grammar.specs.declared.lists.Outputs.{Outputs}
+use Rattle.grammar.specs.Recorded.{namesRead, Listed}
 use Rattle.grammar.specs.Line.{nameIn}
 use Rattle.rules.specs.Limits.{mostEntries, mostNumbers}
 use Rattle.lookup.specs.Names.{entry, listed, put}
@@ -20,16 +22,21 @@ nowhere = record { at = 0; len = 0; part = 0 }
 
 -- ---- the names that a line has
 
-module _ (s : List ℕ) (items : List NameRef) (count : ℕ) (h : count ≤ length items) where
+module _ (s : List ℕ) (o : Outputs) (L : Listed o) where
+  held : o .count ≤ length (o .items)
+  held = omega (arith, L .few, L .size)
+
   -- as many names as are counted
-  pub names-length : length (map (nameIn s) (take count items)) ≡ count
-  names-length = length-map (take count items) (nameIn s) ∙ length-take-le count items h
+  pub read-length : length (namesRead s o) ≡ o .count
+  unfolding namesRead
+  read-length = length-map (take (o .count) (o .items)) (nameIn s) ∙ length-take-le (o .count) (o .items) held
 
   -- the name at i
-  pub names-at : (i : ℕ) → i < count → getD (map (nameIn s) (take count items)) i (nameIn s nowhere) ≡ nameIn s
-      (getD items i nowhere)
-  names-at i k = List·getD-map (nameIn s) (take count items) i nowhere
-      ∙ ap (nameIn s) (getD-take count items i nowhere k)
+  pub read-at : (i : ℕ) → i < o .count → getD (namesRead s o) i (nameIn s nowhere) ≡ nameIn s
+      (getD (o .items) i nowhere)
+  unfolding namesRead
+  read-at i k = List·getD-map (nameIn s) (take (o .count) (o .items)) i nowhere
+      ∙ ap (nameIn s) (getD-take (o .count) (o .items) i nowhere k)
 
 -- ---- the names of a table
 

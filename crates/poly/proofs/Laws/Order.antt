@@ -29,14 +29,6 @@ eq≢lt h = subst IsEq h tt
 pub gt≢lt : Ordering·gt ≡ Ordering·lt → ⊥
 gt≢lt h = subst IsLt (sym h) tt
 
--- `lt` is not `gt`
-pub lt≢gt : Ordering·lt ≡ Ordering·gt → ⊥
-lt≢gt h = subst IsLt h tt
-
--- `eq` is not `gt`
-pub eq≢gt : Ordering·eq ≡ Ordering·gt → ⊥
-eq≢gt h = subst IsEq h tt
-
 -- `lt` is not `eq`
 pub lt≢eq : Ordering·lt ≡ Ordering·eq → ⊥
 lt≢eq h = subst IsLt h tt
@@ -59,19 +51,19 @@ compare-same zero (suc b) h = absurd (lt≢eq (sym (compare·zero-suc b) ∙ h))
 compare-same (suc a) zero h = absurd (gt≢eq (sym (compare·suc-zero a) ∙ h))
 compare-same (suc a) (suc b) h = ap suc (compare-same a b (sym (compare·suc-suc a b) ∙ h))
 
--- a number above another: the other is below it
-compare-gt : (a b : ℕ) → compare a b ≡ Ordering·gt → compare b a ≡ Ordering·lt
-compare-gt zero zero h = absurd (eq≢gt (sym compare·zero-zero ∙ h))
-compare-gt zero (suc b) h = absurd (lt≢gt (sym (compare·zero-suc b) ∙ h))
-compare-gt (suc a) zero h = compare·zero-suc a
-compare-gt (suc a) (suc b) h = compare·suc-suc b a ∙ compare-gt a b (sym (compare·suc-suc a b) ∙ h)
+-- the answer from the other side: what comes first comes behind
+abbrev turned : Ordering → Ordering
+turned Ordering·lt = Ordering·gt
+turned Ordering·eq = Ordering·eq
+turned Ordering·gt = Ordering·lt
 
--- a number below another: the other is above it
-compare-lt : (a b : ℕ) → compare a b ≡ Ordering·lt → compare b a ≡ Ordering·gt
-compare-lt zero zero h = absurd (eq≢lt (sym compare·zero-zero ∙ h))
-compare-lt zero (suc b) h = compare·suc-zero b
-compare-lt (suc a) zero h = absurd (gt≢lt (sym (compare·suc-zero a) ∙ h))
-compare-lt (suc a) (suc b) h = compare·suc-suc b a ∙ compare-lt a b (sym (compare·suc-suc a b) ∙ h)
+-- numbers compared from the other side
+compare-turned : (a b : ℕ) → compare b a ≡ turned (compare a b)
+compare-turned zero zero = compare·zero-zero ∙ ap turned (sym compare·zero-zero)
+compare-turned zero (suc b) = compare·suc-zero b ∙ ap turned (sym (compare·zero-suc b))
+compare-turned (suc a) zero = compare·zero-suc a ∙ ap turned (sym (compare·suc-zero a))
+compare-turned (suc a) (suc b) =
+    compare·suc-suc b a ∙ compare-turned a b ∙ ap turned (sym (compare·suc-suc a b))
 
 -- below, and below again
 compare-trans : (a b c : ℕ) → compare a b ≡ Ordering·lt → compare b c ≡ Ordering·lt → compare a c ≡ Ordering·lt
@@ -97,11 +89,11 @@ lt-cases Ordering·lt r h = inl refl
 lt-cases Ordering·eq r h = inr (refl, h)
 lt-cases Ordering·gt r h = absurd (gt≢lt h)
 
--- the same for `gt`
-gt-cases : (o r : Ordering) → orElse o r ≡ Ordering·gt → (o ≡ Ordering·gt) ⊎ ((o ≡ Ordering·eq) × (r ≡ Ordering·gt))
-gt-cases Ordering·lt r h = absurd (lt≢gt h)
-gt-cases Ordering·eq r h = inr (refl, h)
-gt-cases Ordering·gt r h = inl refl
+-- both answers from the other side
+orElse-turned : (o r : Ordering) → orElse (turned o) (turned r) ≡ turned (orElse o r)
+orElse-turned Ordering·lt r = refl
+orElse-turned Ordering·eq r = refl
+orElse-turned Ordering·gt r = refl
 
 -- equal answers are equal twice
 eq-cases : (o r : Ordering) → orElse o r ≡ Ordering·eq → (o ≡ Ordering·eq) × (r ≡ Ordering·eq)
@@ -126,35 +118,21 @@ order-same (a ∷ e) [] h = absurd (gt≢eq h)
 order-same (a ∷ e) (b ∷ f) h =
     let c = eq-cases (order e f) (compare a b) h in ap₂ _∷_ (compare-same a b (c .1)) (order-same e f (c .0))
 
+-- powers compared from the other side
+order-turned : (e f : List ℕ) → order f e ≡ turned (order e f)
+order-turned [] [] = refl
+order-turned [] (b ∷ f) = refl
+order-turned (a ∷ e) [] = refl
+order-turned (a ∷ e) (b ∷ f) =
+    ap₂ orElse (order-turned e f) (compare-turned a b) ∙ orElse-turned (order e f) (compare a b)
+
 -- powers that come behind others: the others come first
 pub order-gt : (e f : List ℕ) → order e f ≡ Ordering·gt → order f e ≡ Ordering·lt
-order-gt [] [] h = absurd (eq≢gt h)
-order-gt [] (b ∷ f) h = absurd (lt≢gt h)
-order-gt (a ∷ e) [] h = refl
-order-gt (a ∷ e) (b ∷ f) h = go (order-gt e f) (gt-cases (order e f) (compare a b) h)
-  where
-    go : (order e f ≡ Ordering·gt → order f e ≡ Ordering·lt)
-        → (order e f ≡ Ordering·gt) ⊎ ((order e f ≡ Ordering·eq) × (compare a b ≡ Ordering·gt))
-        → orElse (order f e) (compare b a) ≡ Ordering·lt
-    go ih (inl k) = tail-decides (compare b a) (ih k)
-    go ih (inr k) =
-        tail-decides (compare b a) (subst (λ (g : List ℕ). order g e ≡ Ordering·eq) (order-same e f (k .0))
-        (order-self e)) ∙ compare-gt a b (k .1)
+order-gt e f h = order-turned e f ∙ ap turned h
 
 -- powers that come before others: the others come behind
 pub order-lt : (e f : List ℕ) → order e f ≡ Ordering·lt → order f e ≡ Ordering·gt
-order-lt [] [] h = absurd (eq≢lt h)
-order-lt [] (b ∷ f) h = refl
-order-lt (a ∷ e) [] h = absurd (gt≢lt h)
-order-lt (a ∷ e) (b ∷ f) h = go (order-lt e f) (lt-cases (order e f) (compare a b) h)
-  where
-    go : (order e f ≡ Ordering·lt → order f e ≡ Ordering·gt)
-        → (order e f ≡ Ordering·lt) ⊎ ((order e f ≡ Ordering·eq) × (compare a b ≡ Ordering·lt))
-        → orElse (order f e) (compare b a) ≡ Ordering·gt
-    go ih (inl k) = tail-decides (compare b a) (ih k)
-    go ih (inr k) =
-        tail-decides (compare b a) (subst (λ (g : List ℕ). order g e ≡ Ordering·eq) (order-same e f (k .0))
-        (order-self e)) ∙ compare-lt a b (k .1)
+order-lt e f h = order-turned e f ∙ ap turned h
 
 -- before, and before again
 pub order-trans : (e f g : List ℕ) → order e f ≡ Ordering·lt → order f g ≡ Ordering·lt → order e g ≡ Ordering·lt

@@ -1,16 +1,15 @@
 -- The line's length, part by part, and its two outcomes in a buffer: too short, and formed.
 -- Assumes nothing.
-use mathlib.Core.Path.{_≡_, refl, ap, sym}
+use mathlib.Core.Path.{_≡_, refl, ap, sym, _∙_, subst}
 use Prim.Native.Nat.{ℕ, _+_, _-_, _*_, _/_, _<_, _≤_}
 use native.Mathlib.Omega.{arith}
 use native.Mathlib.Nat.{zero-add}
 use mathlib.Core.List.{List, [], _∷_, _++_}
-use lib.ListN.{length, length-append}
+use lib.ListN.{length, take, length-append}
 use borrow.Author.Tests.{le-leb, lt-leb}
-use Rattle.tokens.specs.Ascii.{ascii, tab, lineFeed}
+use Rattle.tokens.specs.Ascii.{tab, lineFeed}
 use Rattle.verdict.specs.declared.report.Report.{Report}
 use Rattle.verdict.specs.declared.report.Verdict.{Verdict}
-use Rattle.verdict.specs.declared.report.Verdict.the-variants.{Equal, Differs, Unknown, Refused}
 use Rattle.verdict.specs.Print.{word, decimal, hexes}
 use Rattle.print.specs.Line.{headOf, lineOf, Put, Formed}
 use Rattle.print.proofs.Laws.Hexes.{hexes-length}
@@ -100,22 +99,18 @@ bytes-over r bs o h e l k = omega (arith, line-length r bs)
 
 -- ---- words
 
--- the word of equal, letter by letter
-pub word-equal : (v : Verdict) → v ≡ Equal → 101 ∷ 113 ∷ 117 ∷ 97 ∷ 108 ∷ [] ≡ word v
-unfolding word ascii
-word-equal v e = ap word (sym e)
+-- the word of a verdict that is told
+pub word-told : {v o : Verdict} → v ≡ o → word o ≡ word v
+word-told e = ap word (sym e)
 
--- the word of differs
-pub word-differs : (v : Verdict) → v ≡ Differs → 100 ∷ 105 ∷ 102 ∷ 102 ∷ 101 ∷ 114 ∷ 115 ∷ [] ≡ word v
-unfolding word ascii
-word-differs v e = ap word (sym e)
+-- its letters, where those of the verdict that is told are its word
+pub letters-told : {v o : Verdict} (l : List ℕ) → v ≡ o → take (length (word o)) l ≡ word o
+    → take (length (word v)) l ≡ word v
+letters-told l e = subst (λ (x : Verdict). take (length (word x)) l ≡ word x) (sym e)
 
--- the word of unknown
-pub word-unknown : (v : Verdict) → v ≡ Unknown → 117 ∷ 110 ∷ 107 ∷ 110 ∷ 111 ∷ 119 ∷ 110 ∷ [] ≡ word v
-unfolding word ascii
-word-unknown v e = ap word (sym e)
-
--- the word of refused
-pub word-refused : (v : Verdict) → v ≡ Refused → 114 ∷ 101 ∷ 102 ∷ 117 ∷ 115 ∷ 101 ∷ 100 ∷ [] ≡ word v
-unfolding word ascii
-word-refused v e = ap word (sym e)
+-- the first n of the letters, where the word has n
+pub letters-cut : (v : Verdict) (l : List ℕ) (n : ℕ) → n ≡ length (word v) → take (length (word v)) l ≡ word v
+    → take (n - 0) l ≡ word v
+letters-cut v l n e h =
+    let k : n - 0 ≡ length (word v) = omega arith in
+    ap (λ (i : ℕ). take i l) k ∙ h

@@ -1,11 +1,11 @@
--- The steps of the application of a map: the constant, a scaled term, the squares in place. Assumes nothing.
+-- The steps of the application of a map: the constant, a scaled row, the squares in place. Assumes nothing.
 use mathlib.Core.Path.{_≡_, refl, sym, ap, ap₂, _∙_, subst}
 use mathlib.Core.List.{List, [], _∷_}
 use Prim.Native.Nat.{ℕ, zero, suc, _+_, _*_, _-_, _≤_, _<_}
 use native.Mathlib.Omega.{arith}
 use native.Mathlib.Nat.{le-refl, zero-mul, one-mul, mul-le-mul-right}
 use lib.ListN.{length, getD, take, drop, set, replicate, length-set, length-replicate, getD-replicate}
-use lib.Seq.{ext-getD, getD-set-same, getD-set-other}
+use lib.Seq.{getD-set-same, getD-set-other}
 use Rattle.field.specs.Field.{times}
 use Rattle.field.specs.Laws.{Ops, gf}
 use Rattle.poly.specs.Poly.{Term, term, Poly, addPows, constant, square}
@@ -76,23 +76,6 @@ constant-done b₀ b (suc c) w j p z f g k h = record {
         ap (λ (x : ℕ). getD b x 0) s ∙ h .powers (suc i) (omega arith) (omega arith)
         ∙ sym (getD-replicate (w - 1) i 0 0 (omega arith))
 
--- ---- a scaled term
-
--- the first byte stored
-set-front : (p : List ℕ) (v : ℕ) → 0 < length p → set p 0 v ≡ v ∷ drop 1 p
-set-front [] v h = absurd (omega arith)
-set-front (c ∷ e) v h = refl
-
--- a term copied, with its coefficient scaled
-pub scaled-made : (t t₁ p : List ℕ) (v : ℕ) → 0 < length t → length p ≡ length t → Written t t₁ 0 p
-    → set t₁ 0 v ≡ v ∷ drop 1 p
-scaled-made t t₁ p v h l w =
-    let e : t₁ ≡ p =
-    ext-getD 0 t₁ p (w .size ∙ sym l) (λ i k.
-    let s : i ≡ 0 + i = omega arith in
-    ap (λ (x : ℕ). getD t₁ x 0) s ∙ w .here i (omega (arith, w .size))) in
-    ap (λ (x : List ℕ). set x 0 v) e ∙ set-front p v (omega arith)
-
 -- ---- a scaled row
 
 -- a coefficient of zero adds nothing
@@ -101,20 +84,21 @@ scaled-none m b r l src k w z =
     subst (λ (x : ℕ). ScaledAdded m b b r x src k w r) (sym z)
     (record { size = refl; terms = refl; high = λ j h. refl })
 
--- where l is not zero, this is a row
+-- where l is not zero, this is the row of a term without powers
 pub scaled-row-asks : (b : List ℕ) (r l : ℕ) (src : List ℕ) (k : ℕ) (t : List ℕ) → 0 < l → ScaledAsked b r l src k t
-    → RowAsked b r src k t
+    → RowAsked b r (l ∷ []) src k (length t)
 scaled-row-asks b r zero src k t p a = absurd (omega arith)
 scaled-row-asks b r (suc l) src k t p a = record {
-  some = a .some;
+  some = omega arith;
+  within = a .some;
   source = a .source;
   room = subst (λ (x : ℕ). (r + x) * length t ≤ length b) (one-mul k) (a .room);
   sorted = a .sorted;
 }
 
--- a row of a coefficient other than zero is what is asked
+-- the row of such a term is what is asked
 pub scaled-row-done : (m : ℕ) (b b′ : List ℕ) (r l : ℕ) (src : List ℕ) (k w n : ℕ) → 0 < l
-    → RowAdded m b b′ r l [] src k w n
+    → RowAdded m b b′ r (l ∷ []) src k w n
     → ScaledAdded m b b′ r l src k w n
 scaled-row-done m b b′ r zero src k w n p h = absurd (omega arith)
 scaled-row-done m b b′ r (suc l) src k w n p h = record {

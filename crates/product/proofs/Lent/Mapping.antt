@@ -5,7 +5,7 @@ use mathlib.Core.List.{List, [], _∷_, _++_}
 use Prim.Native.Nat.{ℕ, zero, suc, _+_, _*_, _-_, _≤_, _<_}
 use native.Mathlib.Omega.{arith}
 use native.Mathlib.Numerals.{add-one}
-use native.Mathlib.Nat.{add-mul, mul-le-mul-right}
+use native.Mathlib.Nat.{add-mul, le-add-right, mul-le-mul-right}
 use lib.ListN.{length, getD, drop}
 use lib.Seq.{drop-cons, drop-length}
 use Rattle.field.specs.Laws.{Ops, gf}
@@ -44,10 +44,8 @@ pub record InApply (m c : ℕ) (ls b₀ src₀ : List ℕ) (k : ℕ) (t₀ b src
 -- room for the constant alone
 pub first-room : (m c : ℕ) (ls b src : List ℕ) (k : ℕ) (t : List ℕ) → ApplyAsked m c ls b src k t
     → oneIf c * length t ≤ length b
-first-room m c ls b src k t a = omega (arith, a .room, mul-le-mul-right (length t) (less (oneIf c) (nonzeros ls * k)))
-  where
-    less : (x y : ℕ) → x ≤ x + y
-    less x y = omega arith
+first-room m c ls b src k t a =
+    omega (arith, a .room, mul-le-mul-right (length t) (le-add-right (oneIf c) (nonzeros ls * k)))
 
 module _ (m c : ℕ) (ls : List ℕ) (src₀ : List ℕ) (k : ℕ) (t₀ : List ℕ) where
   -- the field
@@ -106,17 +104,13 @@ module _ (m c : ℕ) (ls : List ℕ) (src₀ : List ℕ) (k : ℕ) (t₀ : List 
                 0 n)) z) ∙ h .left;
             high = λ i g. h .high i g ∙ o .high i (omega (
               arith,
-              mul-le-mul-right w
-                  (less (oneIf c) (nonzeros ls * k)),
+              mul-le-mul-right w (le-add-right (oneIf c) (nonzeros ls * k)),
             ));
           };
           source = h .source;
           above = h .above;
         }
       where
-        less : (x y : ℕ) → x ≤ x + y
-        less x y = omega arith
-
         eight : j ≡ length ls
         eight = omega (arith, h .most, h .eight)
 

@@ -4,7 +4,7 @@ use mathlib.Core.Path.{_≡_, refl, sym, ap, ap₂, _∙_, subst}
 use mathlib.Core.List.{List, _++_}
 use Prim.Native.Nat.{ℕ, suc, _+_, _*_, _-_, _≤_, _<_}
 use native.Mathlib.Omega.{arith}
-use native.Mathlib.Nat.{mul-le-mul-right, add-mul, zero-add}
+use native.Mathlib.Nat.{le-add-right, mul-le-mul-right, add-mul, zero-add}
 use lib.ListN.{length, getD, List·getD-eq-default}
 use Rattle.field.specs.Laws.{gf}
 use Rattle.poly.specs.Poly.{Poly, into}
@@ -27,12 +27,9 @@ merge-room b n at r w h =
     let e : n + (at - n) ≡ at = omega arith in (
       l,
       sym (add-mul n (at - n) w) ∙ ap (λ (x : ℕ). x * w) e,
-      omega (arith, mul-le-mul-right w (more at r), h .fits),
+      omega (arith, mul-le-mul-right w (le-add-right at r), h .fits),
       omega (arith, row-count (at + r) w (h .some), h .fits),
     )
-  where
-    more : (x y : ℕ) → x ≤ x + y
-    more x y = omega arith
 
 -- a merge under way: k terms are written, term i of the sum and term j of the piece are next; the buffer was b when the
 -- sum had been moved up
@@ -118,7 +115,7 @@ module _ (b : List ℕ) (n at r w : ℕ) (b′ : List ℕ) (k i j : ℕ) (h : In
       let g = h .left in
       let l : k ≤ i = omega (arith, g .room) in
       let e : k + (i - k) ≡ i = omega arith in
-      let f : at * w ≤ length b′ = omega (arith, mul-le-mul-right w (more at r), g .fits) in (
+      let f : at * w ≤ length b′ = omega (arith, mul-le-mul-right w (le-add-right at r), g .fits) in (
         l,
         g .sum,
         sym (add-mul k (i - k) w) ∙ ap (λ (x : ℕ). x * w) e,
@@ -126,9 +123,6 @@ module _ (b : List ℕ) (n at r w : ℕ) (b′ : List ℕ) (k i j : ℕ) (h : In
         f,
         omega (arith, row-count at w (g .some)),
       )
-    where
-      more : (x y : ℕ) → x ≤ x + y
-      more x y = omega arith
 
   -- no term of the piece is left: what is left of the sum is moved down
   pub merge-done : at + r ≤ j → (b″ b₀ : List ℕ) → MovedDown b′ b″ (i * w) (at * w) ((i - k) * w)

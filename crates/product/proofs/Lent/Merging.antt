@@ -4,7 +4,7 @@ use mathlib.Core.Logic.{_≢_}
 use mathlib.Core.List.{List, [], _∷_, _++_, append-assoc, append-nil}
 use Prim.Native.Nat.{ℕ, zero, suc, _+_, _*_, _-_, _≤_, _<_, Ordering, Ordering·lt, Ordering·eq, Ordering·gt}
 use native.Mathlib.Omega.{arith}
-use native.Mathlib.Nat.{zero-lt-suc, mul-le-mul-right, suc-mul}
+use native.Mathlib.Nat.{zero-lt-suc, mul-le-mul-right}
 use native.Mathlib.Numerals.{add-one}
 use lib.ListN.{length, getD, take, drop, set, length-set, length-append}
 use lib.Seq.{getD-set-same, getD-set-other, drop-set-lt}
@@ -15,29 +15,27 @@ use Rattle.buffer.specs.Buffer.{termAt, readTerms, answer}
 use Rattle.buffer.specs.Move.{MovedDown}
 use Rattle.poly.proofs.Laws.Insert.{keep-some}
 use Rattle.poly.proofs.Laws.Merge.{merge-less, merge-more, merge-same}
-use Rattle.poly.proofs.Laws.Order.{order-same}
+use Rattle.poly.proofs.Laws.Order.{gt≢lt, eq≢lt, order-same}
 use Rattle.buffer.proofs.Lent.Reads.{read-length, read-same, read-shift, read-more}
+use Rattle.buffer.proofs.Lent.Places.{answer-unique}
+use Rattle.buffer.proofs.Lent.Strides.{next-row}
 use Rattle.product.specs.Merge.{Merging, against, facing, Grown, Stepped}
 
 -- ---- which comes first
 
--- the answer 0: the piece's term comes first
-pub answer-first : (o : Ordering) {x : ℕ} → x ≡ answer o → x ≡ 0 → o ≡ Ordering·lt
-answer-first Ordering·lt e h = refl
-answer-first Ordering·eq e h = absurd (omega arith)
-answer-first Ordering·gt e h = absurd (omega arith)
-
--- the answer 2: the sum's does
-pub answer-second : (o : Ordering) {x : ℕ} → x ≡ answer o → x ≡ 2 → o ≡ Ordering·gt
-answer-second Ordering·lt e h = absurd (omega arith)
-answer-second Ordering·eq e h = absurd (omega arith)
-answer-second Ordering·gt e h = refl
-
--- neither: they have the same powers
-pub answer-rest : (o : Ordering) {x : ℕ} → x ≡ answer o → x ≢ 0 → x ≢ 2 → o ≡ Ordering·eq
-answer-rest Ordering·lt e h k = absurd (h e)
-answer-rest Ordering·eq e h k = refl
-answer-rest Ordering·gt e h k = absurd (k e)
+-- the order that an answer tells: 0 the piece's term comes first, 2 the sum's, else they have the same powers
+pub answer-told : (o : Ordering) (x : ℕ) → x ≡ answer o
+    → (x ≡ 0 → o ≡ Ordering·lt) × (x ≡ 2 → o ≡ Ordering·gt) × (x ≢ 0 → x ≢ 2 → o ≡ Ordering·eq)
+answer-told o x e = (
+  λ z. answer-unique o Ordering·lt (sym e ∙ z),
+  λ z. answer-unique o Ordering·gt (sym e ∙ z),
+  λ y z. rest o e y z,
+)
+  where
+    rest : (o : Ordering) → x ≡ answer o → x ≢ 0 → x ≢ 2 → o ≡ Ordering·eq
+    rest Ordering·lt e y z = absurd (y e)
+    rest Ordering·eq e y z = refl
+    rest Ordering·gt e y z = absurd (z e)
 
 -- the sum is at its end
 pub facing-end : (b : List ℕ) (w i end j : ℕ) → i ≡ end → 0 ≡ answer (facing b w i end j)
@@ -64,9 +62,10 @@ some-left e n b at zero h = absurd (h refl)
 some-left e n b at (suc x) h = zero-lt-suc x
 
 -- where the piece's term does not come first a term of the sum is left
-pub facing-left : (b : List ℕ) (w i end j : ℕ) → facing b w i end j ≢ Ordering·lt → i < end
-facing-left b w i end j h =
-    let s = some-left (take (w - 1) (drop (suc (j * w)) b)) (w - 1) b (i * w) (end - i) h in omega arith
+pub facing-left : (b : List ℕ) (w i end j : ℕ) (o : Ordering) → o ≢ Ordering·lt → facing b w i end j ≡ o → i < end
+facing-left b w i end j o n q =
+    let s = some-left (take (w - 1) (drop (suc (j * w)) b)) (w - 1) b (i * w) (end - i) (λ e. n (sym q ∙ e)) in
+    omega arith
 
 -- powers that come first come before the list
 against-above : (e : List ℕ) (p : Poly) → against e p ≡ Ordering·lt → Above e p
@@ -85,8 +84,8 @@ taken b b′ i k w p l f d =
     let g : k * w ≤ i * w = mul-le-mul-right w l in
     let ek : k * suc n ≡ k * w = ap (λ (x : ℕ). k * x) e in
     let eo : 1 * suc n ≡ w = omega arith in
-    let si : (i + 1) * w ≡ i * w + w = ap (λ (x : ℕ). x * w) (add-one i) ∙ suc-mul i w in
-    let sk : (k + 1) * w ≡ k * w + w = ap (λ (x : ℕ). x * w) (add-one k) ∙ suc-mul k w in
+    let si : (i + 1) * w ≡ i * w + w = next-row i w in
+    let sk : (k + 1) * w ≡ k * w + w = next-row k w in
     let by : k * w + (i * w - k * w) ≡ i * w = omega arith in
     let at : 0 + k * suc n ≡ k * w = omega arith in
     record {
@@ -120,7 +119,7 @@ joined-some b b′ i k w c p l f z g =
     let ek : k * suc n ≡ k * w = ap (λ (x : ℕ). k * x) e in
     let u : k * w ≤ i * w = mul-le-mul-right w (omega arith) in
     let v : (k + 1) * w ≤ i * w = mul-le-mul-right w (omega arith) in
-    let si : (i + 1) * w ≡ i * w + w = ap (λ (x : ℕ). x * w) (add-one i) ∙ suc-mul i w in
+    let si : (i + 1) * w ≡ i * w + w = next-row i w in
     let y : List ℕ = take n (drop (suc (i * w)) b) in
     record {
       size = g .size ∙ length-set b (i * w) c;
@@ -144,7 +143,7 @@ next : (b : List ℕ) (w j last : ℕ) → 0 < w → j < last
     ≡ termAt (w - 1) b (j * w) ∷ readTerms (w - 1) b ((j + 1) * w) (last - (j + 1))
 next b w j last p l =
     let s : last - j ≡ suc (last - (j + 1)) = omega arith in
-    let sj : (j + 1) * w ≡ j * w + w = ap (λ (x : ℕ). x * w) (add-one j) ∙ suc-mul j w in
+    let sj : (j + 1) * w ≡ j * w + w = next-row j w in
     let u : j * w + suc (w - 1) ≡ (j + 1) * w = omega arith in
     ap (readTerms (w - 1) b (j * w)) s
     ∙ ap (λ (x : ℕ). termAt (w - 1) b (j * w) ∷ readTerms (w - 1) b x (last - (j + 1))) u
@@ -155,7 +154,7 @@ record Rest (b : List ℕ) (w i end j last : ℕ) : Type 0 where
   sorted : Sorted (readTerms (w - 1) b (j * w) (last - j))
   nonzero : Coefs Nonzero (readTerms (w - 1) b (j * w) (last - j))
 
-module _ (F : Ops) (b b′ : List ℕ) (w k i end j last : ℕ) (h : Merging b w k i end j last) where
+module _ (F : Ops) {b : List ℕ} {w k i end j last : ℕ} (h : Merging b w k i end j last) where
   -- the terms of the piece from x on
   abbrev pieces : ℕ → Poly
   pieces x = readTerms (w - 1) b (x * w) (last - x)
@@ -165,11 +164,11 @@ module _ (F : Ops) (b b′ : List ℕ) (w k i end j last : ℕ) (h : Merging b w
   sums x = readTerms (w - 1) b (x * w) (end - x)
 
   -- p is written, and what is left of both lists gives the rest
-  stepped : (n i′ j′ from : ℕ) (p : Poly) → Grown b b′ w k n from p → from ≤ i′ → i′ ≤ end → j ≤ j′ → j′ ≤ last
-      → n + (last - j′) ≤ i′ → end - i′ + (last - j′) < end - i + (last - j) → Rest b w i′ end j′ last
-      → into F (pieces j) (sums i) ≡ p ++ into F (pieces j′) (sums i′)
+  stepped : {b′ : List ℕ} (n i′ j′ from : ℕ) (p : Poly) → Grown b b′ w k n from p → from ≤ i′ → i′ ≤ end
+      → j ≤ j′ → j′ ≤ last → n + (last - j′) ≤ i′ → end - i′ + (last - j′) < end - i + (last - j)
+      → Rest b w i′ end j′ last → into F (pieces j) (sums i) ≡ p ++ into F (pieces j′) (sums i′)
       → Stepped F b b′ w end last k i j n i′ j′
-  stepped n i′ j′ from p g lf li lj ll room less r e =
+  stepped {b′} n i′ j′ from p g lf li lj ll room less r e =
       let u : from * w ≤ i′ * w = mul-le-mul-right w lf in
       let v : i′ * w ≤ j′ * w = mul-le-mul-right w (omega (arith, h .piece)) in
       let s : readTerms (w - 1) b′ (i′ * w) (end - i′) ≡ sums i′ =
@@ -210,7 +209,7 @@ module _ (F : Ops) (b b′ : List ℕ) (w k i end j last : ℕ) (h : Merging b w
     piece-nonzero = subst (Coefs Nonzero) piece-next (h .nonzero)
 
     -- the piece's term comes first
-    pub step-piece : facing b w i end j ≡ Ordering·lt
+    pub step-piece : {b′ : List ℕ} → facing b w i end j ≡ Ordering·lt
         → Grown b b′ w k (k + 1) (k + 1) (termAt (w - 1) b (j * w) ∷ [])
         → Stepped F b b′ w end last k i j (k + 1) i (j + 1)
     step-piece o g =
@@ -236,49 +235,51 @@ module _ (F : Ops) (b b′ : List ℕ) (w k i end j last : ℕ) (h : Merging b w
           ≡ order (take (w - 1) (drop (suc (j * w)) b)) (take (w - 1) (drop (suc (i * w)) b))
       facing-order = ap (against (take (w - 1) (drop (suc (j * w)) b))) sum-next
 
-      -- the sum's term comes first
-      pub step-sum : facing b w i end j ≡ Ordering·gt
-          → Grown b b′ w k (k + 1) (k + 1) (termAt (w - 1) b (i * w) ∷ [])
-          → Stepped F b b′ w end last k i j (k + 1) (i + 1) j
-      step-sum o g =
-          stepped (k + 1) (i + 1) j (k + 1) (termAt (w - 1) b (i * w) ∷ []) g (omega (arith, h .room)) (omega arith)
-          (omega arith) (omega arith) (omega (arith, h .room)) (omega arith)
-          (record { ascends = sum-sorted .1; sorted = h .sorted; nonzero = h .nonzero })
-          (ap₂ (into F) piece-next sum-next
-          ∙ merge-more F (getD b (j * w) 0) (take (w - 1) (drop (suc (j * w)) b)) (pieces (j + 1))
-          (getD b (i * w) 0) (take (w - 1) (drop (suc (i * w)) b)) (sums (i + 1)) (sym facing-order ∙ o) piece-sorted
-          ∙ ap {B = Poly} (λ (x : Poly). termAt (w - 1) b (i * w) ∷ into F x (sums (i + 1))) (sym piece-next))
+    -- the sum's term comes first
+    pub step-sum : {b′ : List ℕ} → facing b w i end j ≡ Ordering·gt
+        → Grown b b′ w k (k + 1) (k + 1) (termAt (w - 1) b (i * w) ∷ [])
+        → Stepped F b b′ w end last k i j (k + 1) (i + 1) j
+    step-sum o g =
+        let t : i < end = facing-left b w i end j Ordering·gt gt≢lt o in
+        stepped (k + 1) (i + 1) j (k + 1) (termAt (w - 1) b (i * w) ∷ []) g (omega (arith, h .room)) (omega arith)
+        (omega arith) (omega arith) (omega (arith, h .room)) (omega arith)
+        (record { ascends = sum-sorted t .1; sorted = h .sorted; nonzero = h .nonzero })
+        (ap₂ (into F) piece-next (sum-next t)
+        ∙ merge-more F (getD b (j * w) 0) (take (w - 1) (drop (suc (j * w)) b)) (pieces (j + 1))
+        (getD b (i * w) 0) (take (w - 1) (drop (suc (i * w)) b)) (sums (i + 1)) (sym (facing-order t) ∙ o) piece-sorted
+        ∙ ap {B = Poly} (λ (x : Poly). termAt (w - 1) b (i * w) ∷ into F x (sums (i + 1))) (sym piece-next))
 
-      -- both have the same powers
-      pub step-both : facing b w i end j ≡ Ordering·eq → (n : ℕ)
-          → Grown b b′ w k n (i + 1)
-          (keep (F .add (getD b (j * w) 0) (getD b (i * w) 0)) (take (w - 1) (drop (suc (i * w)) b)) [])
-          → Stepped F b b′ w end last k i j n (i + 1) (j + 1)
-      step-both o n g =
-          let x : ℕ = F .add (getD b (j * w) 0) (getD b (i * w) 0) in
-          let e : List ℕ = take (w - 1) (drop (suc (j * w)) b) in
-          let f : List ℕ = take (w - 1) (drop (suc (i * w)) b) in
-          let q : order e f ≡ Ordering·eq = sym facing-order ∙ o in
-          let most : n ≤ k + 1 =
-          omega (
-            arith,
-            sym (read-length (w - 1) b′ 0 n) ∙ ap length (g .terms)
-                ∙ length-append (readTerms (w - 1) b 0 k) (keep x f []),
-            read-length (w - 1) b 0 k,
-            keep-most x f,
-          ) in
-          stepped n (i + 1) (j + 1) (i + 1) (keep x f []) g (omega arith) (omega arith)
-          (omega arith) (omega arith) (omega (arith, h .room)) (omega arith)
-          (record { ascends = sum-sorted .1; sorted = piece-sorted .1; nonzero = piece-nonzero .1 })
-          (ap₂ (into F) piece-next sum-next
-          ∙ merge-same F (getD b (j * w) 0) e (pieces (j + 1)) (getD b (i * w) 0) f (sums (i + 1)) q piece-sorted
-          ∙ ap (λ (y : List ℕ). keep x y (into F (pieces (j + 1)) (sums (i + 1)))) (order-same e f q)
-          ∙ keep-front x f (into F (pieces (j + 1)) (sums (i + 1))))
-        where
-          keep-most : (x : ℕ) (f : List ℕ) → length (keep x f []) ≤ 1
-          keep-most zero f = omega arith
-          keep-most (suc x) f = omega arith
+    -- both have the same powers
+    pub step-both : {b′ : List ℕ} {n : ℕ} → facing b w i end j ≡ Ordering·eq
+        → Grown b b′ w k n (i + 1)
+        (keep (F .add (getD b (j * w) 0) (getD b (i * w) 0)) (take (w - 1) (drop (suc (i * w)) b)) [])
+        → Stepped F b b′ w end last k i j n (i + 1) (j + 1)
+    step-both {b′} {n} o g =
+        let t : i < end = facing-left b w i end j Ordering·eq eq≢lt o in
+        let x : ℕ = F .add (getD b (j * w) 0) (getD b (i * w) 0) in
+        let e : List ℕ = take (w - 1) (drop (suc (j * w)) b) in
+        let f : List ℕ = take (w - 1) (drop (suc (i * w)) b) in
+        let q : order e f ≡ Ordering·eq = sym (facing-order t) ∙ o in
+        let most : n ≤ k + 1 =
+        omega (
+          arith,
+          sym (read-length (w - 1) b′ 0 n) ∙ ap length (g .terms)
+              ∙ length-append (readTerms (w - 1) b 0 k) (keep x f []),
+          read-length (w - 1) b 0 k,
+          keep-most x f,
+        ) in
+        stepped n (i + 1) (j + 1) (i + 1) (keep x f []) g (omega arith) (omega arith)
+        (omega arith) (omega arith) (omega (arith, h .room)) (omega arith)
+        (record { ascends = sum-sorted t .1; sorted = piece-sorted .1; nonzero = piece-nonzero .1 })
+        (ap₂ (into F) piece-next (sum-next t)
+        ∙ merge-same F (getD b (j * w) 0) e (pieces (j + 1)) (getD b (i * w) 0) f (sums (i + 1)) q piece-sorted
+        ∙ ap (λ (y : List ℕ). keep x y (into F (pieces (j + 1)) (sums (i + 1)))) (order-same e f q)
+        ∙ keep-front x f (into F (pieces (j + 1)) (sums (i + 1))))
+      where
+        keep-most : (x : ℕ) (f : List ℕ) → length (keep x f []) ≤ 1
+        keep-most zero f = omega arith
+        keep-most (suc x) f = omega arith
 
-          keep-front : (x : ℕ) (f : List ℕ) (p : Poly) → keep x f p ≡ keep x f [] ++ p
-          keep-front zero f p = refl
-          keep-front (suc x) f p = refl
+        keep-front : (x : ℕ) (f : List ℕ) (p : Poly) → keep x f p ≡ keep x f [] ++ p
+        keep-front zero f p = refl
+        keep-front (suc x) f p = refl

@@ -4,32 +4,24 @@ use mathlib.Core.Path.{_≡_, sym, ap, ap₂, _∙_, subst}
 use mathlib.Core.List.{List, []}
 use Prim.Native.Nat.{ℕ, suc, _+_, _*_, _-_, _≤_}
 use native.Mathlib.Omega.{arith}
-use native.Mathlib.Nat.{mul-le-mul-right, add-mul, zero-add}
+use native.Mathlib.Nat.{le-add-right, mul-le-mul-right, add-mul, zero-add}
 use lib.ListN.{length}
-use Rattle.field.specs.Laws.{Ops, Ring, gf}
-use Rattle.poly.specs.Poly.{Poly, into, scale}
+use Rattle.field.specs.Laws.{Ring, gf}
+use Rattle.poly.specs.Poly.{Poly, into}
 use Rattle.poly.specs.Canon.{Coefs, Sorted, Nonzero}
-use Rattle.poly.proofs.Laws.Size.{length-scale}
 use Rattle.poly.proofs.Laws.Sum.{into-sorted, into-none, into-length}
 use Rattle.poly.proofs.Laws.Insert.{into-nonzero, into-normal}
 use Rattle.buffer.specs.Buffer.{readTerms}
-use Rattle.buffer.proofs.Lent.Reads.{read-length, read-same}
+use Rattle.buffer.proofs.Lent.Reads.{read-same}
 use Rattle.buffer.proofs.Lent.Strides.{row-count}
 use Rattle.buffer.proofs.Lent.Adding.{holds-count}
-use Rattle.product.specs.Product.{RowAsked, RowAdded, SumAsked, SumAdded}
+use Rattle.product.specs.Product.{rowOf, RowAsked, RowAdded, SumAsked, SumAdded}
 use Rattle.product.specs.Merge.{MergeAsked, MergedAny}
 use Rattle.product.proofs.Lent.Parts.{part, part-length, returned, returned-size, returned-low, returned-read}
 use Rattle.product.proofs.Lent.Merged.{beyond}
+use Rattle.product.proofs.Lent.Products.{row-wide, rowOf-length}
 
-module _ (m : ℕ) (b : List ℕ) (n c : ℕ) (e src : List ℕ) (k : ℕ) (t : List ℕ) (h : SumAsked b n src k t) where
-  -- the field
-  abbrev F : Ops
-  F = gf m
-
-  -- the bytes of a term
-  abbrev w : ℕ
-  w = length t
-
+module _ {b : List ℕ} {n : ℕ} {f src : List ℕ} {k w : ℕ} (h : SumAsked b n f src k w) where
   -- the part that is lent for the piece: from here
   abbrev from : ℕ
   from = (n + k) * w
@@ -38,10 +30,6 @@ module _ (m : ℕ) (b : List ℕ) (n c : ℕ) (e src : List ℕ) (k : ℕ) (t : 
   abbrev to : ℕ
   to = from + k * w
 
-  -- the products
-  abbrev products : Poly
-  products = scale F c e (readTerms (w - 1) src 0 k)
-
   -- the terms that stood there
   abbrev there : Poly
   there = readTerms (w - 1) b 0 n
@@ -49,17 +37,14 @@ module _ (m : ℕ) (b : List ℕ) (n c : ℕ) (e src : List ℕ) (k : ℕ) (t : 
   -- the numbers of terms fit
   pub piece-count : (n + k ≤ length b) × (n * w ≤ from) × (from ≤ length b)
   piece-count = (
-    omega (arith, row-count (n + k) w (h .row .some), h .row .room),
-    mul-le-mul-right w (more n k),
+    omega (arith, row-count (n + k) w (row-wide (h .row)), h .row .room),
+    mul-le-mul-right w (le-add-right n k),
     h .row .room,
   )
-    where
-      more : (x y : ℕ) → x ≤ x + y
-      more x y = omega arith
 
   -- the products are inserted
-  pub piece-inserted : (b′ : List ℕ) (r : ℕ) → RowAdded m b b′ n c e src k w r → SumAdded m b b′ n c e src k w r
-  piece-inserted b′ r g =
+  pub piece-inserted : (m : ℕ) {b′ : List ℕ} {r : ℕ} → RowAdded m b b′ n f src k w r → SumAdded m b b′ n f src k w r
+  piece-inserted m g =
       record { size = g .size; terms = g .terms; high = λ j l. g .high j (omega (arith, h .row .room)) }
 
   module _ (fits : to ≤ length b) where
@@ -76,15 +61,20 @@ module _ (m : ℕ) (b : List ℕ) (n c : ℕ) (e src : List ℕ) (k : ℕ) (t : 
     lent-length = part-length b from to lies fits ∙ omega arith
 
     -- what the row of its own asks
-    pub piece-asks : RowAsked lent 0 src k t
+    pub piece-asks : RowAsked lent 0 f src k w
     piece-asks = record {
       some = h .row .some;
+      within = h .row .within;
       source = h .row .source;
       room = omega (arith, lent-length, ap (λ (x : ℕ). x * w) (zero-add k));
       sorted = tt;
     }
 
-    module _ (x : List ℕ) (r : ℕ) (g : RowAdded m lent x 0 c e src k w r) where
+    module _ (m : ℕ) {x : List ℕ} {r : ℕ} (g : RowAdded m lent x 0 f src k w r) where
+      -- the products
+      abbrev products : Poly
+      products = rowOf m f (readTerms (w - 1) src 0 k)
+
       -- the buffer when the part came back
       abbrev now : List ℕ
       now = returned b from to x
@@ -94,22 +84,15 @@ module _ (m : ℕ) (b : List ℕ) (n c : ℕ) (e src : List ℕ) (k : ℕ) (t : 
       came = g .size ∙ part-length b from to lies fits
 
       -- no more terms than products
-      pub piece-most : r ≤ k
-      piece-most =
-          omega (
-            arith,
-            holds-count g,
-            into-length F products [],
-            length-scale F c e (readTerms (w - 1) src 0 k),
-            read-length (w - 1) src 0 k,
-          )
+      piece-most : r ≤ k
+      piece-most = omega (arith, holds-count g, into-length (gf m) products [], rowOf-length m f src 0 k w)
 
       -- a term's bytes
       width : suc (w - 1) ≡ w
-      width = omega (arith, h .row .some)
+      width = omega (arith, row-wide (h .row))
 
       -- the terms of the piece
-      piece-terms : readTerms (w - 1) now from r ≡ into F products []
+      piece-terms : readTerms (w - 1) now from r ≡ into (gf m) products []
       piece-terms =
           let l : r * w ≤ k * w = mul-le-mul-right w piece-most in
           let u : r * suc (w - 1) ≡ r * w = ap (λ (y : ℕ). r * y) width in
@@ -125,7 +108,7 @@ module _ (m : ℕ) (b : List ℕ) (n c : ℕ) (e src : List ℕ) (k : ℕ) (t : 
       -- what the merge asks
       pub piece-merges : MergeAsked now n (n + k) r w
       piece-merges = record {
-        some = h .row .some;
+        some = row-wide (h .row);
         room = omega (arith, piece-most);
         fits =
             omega (
@@ -135,19 +118,19 @@ module _ (m : ℕ) (b : List ℕ) (n c : ℕ) (e src : List ℕ) (k : ℕ) (t : 
               returned-size b from to lies fits x came,
             );
         ascends = subst Sorted (sym sum-terms) (h .row .sorted);
-        sorted = subst Sorted (sym piece-terms) (into-sorted F products [] tt);
-        nonzero = subst (Coefs Nonzero) (sym piece-terms) (into-nonzero F products [] tt);
+        sorted = subst Sorted (sym piece-terms) (into-sorted (gf m) products [] tt);
+        nonzero = subst (Coefs Nonzero) (sym piece-terms) (into-nonzero (gf m) products [] tt);
       }
 
       -- the piece is merged
-      pub piece-merged : Ring F → (b′ : List ℕ) (r′ : ℕ) → MergedAny now b′ n (n + k) r w r′
-          → SumAdded m b b′ n c e src k w r′
+      pub piece-merged : Ring (gf m) → (b′ : List ℕ) (r′ : ℕ) → MergedAny now b′ n (n + k) r w r′
+          → SumAdded m b b′ n f src k w r′
       piece-merged R b′ r′ d =
           let s : length b′ ≡ length b = d m .size ∙ returned-size b from to lies fits x came in
           record {
             size = s;
             terms =
-                d m .terms ∙ ap₂ (into F) (piece-terms ∙ into-none F products) sum-terms
-                ∙ into-normal F R products there (h .row .sorted) (h .nonzero);
+                d m .terms ∙ ap₂ (into (gf m)) (piece-terms ∙ into-none (gf m) products) sum-terms
+                ∙ into-normal (gf m) R products there (h .row .sorted) (h .nonzero);
             high = beyond b b′ s;
           }

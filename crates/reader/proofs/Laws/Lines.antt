@@ -6,8 +6,8 @@ use mathlib.Core.Path.{_≡_, refl, ap, sym, subst, _∙_}
 use mathlib.Core.Bool.{Bool, true, false, cond}
 use mathlib.Core.List.{List, [], _∷_}
 use lib.Dec.{ltb}
-use lib.ListN.{length, take, drop, getD, length-drop}
-use lib.Seq.{drop-cons, drop-drop, take-all}
+use lib.ListN.{length, drop, getD, length-drop}
+use lib.Seq.{drop-cons, take-all}
 use denote.Ref.{RefT, now}
 use borrow.Author.Tests.{lt-ltb, le-ltb, ltb-true, ltb-false}
 use Rattle.grammar.specs.declared.line.Line.{Line}
@@ -15,29 +15,16 @@ use Rattle.reader.specs.declared.cursor.Cursor.{Cursor}
 use Rattle.reader.specs.declared.cursor.Ahead.{Ahead}
 use Rattle.reader.specs.declared.cursor.Ahead.the-variants as Ahead
 use Rattle.tokens.specs.Ascii.{lineFeed, all, allowed}
-use Rattle.tokens.specs.Split.{before, pieces}
+use Rattle.tokens.specs.Split.{pieces}
 use Rattle.reader.specs.Cursor.{lineEnd, lookAt}
 use Rattle.reader.specs.Reader.{refused, ended, bytesOf, lineGiven, lastGiven, aheadGiven}
 use Rattle.reader.specs.Reader.{placed, recordAhead, placeBehind, placeAt, handedAt}
 use Rattle.reader.specs.Handed.{movedOn, readerAt}
-use Rattle.tokens.proofs.Laws.Pieces.{pieces-cut, pieces-whole, some-piece}
+use Rattle.tokens.proofs.Laws.Pieces.{piece-cut, piece-last, some-piece}
 use Rattle.reader.proofs.Laws.Ahead.{end-at, end-ge}
 use Rattle.reader.proofs.Laws.Handed.{placed-same, placed-past, behind-line, ahead-told, behind-told}
 
 -- ---- what is ahead of a place
-
--- the first separator from a place on ends the first piece from there
-pub piece-cut : (sep : ℕ) (s : List ℕ) (at end : ℕ) → end ≡ at + before sep (drop at s) → end < length s
-    → pieces sep (drop at s) ≡ take (end - at) (drop at s) ∷ pieces sep (drop (end + 1) s)
-piece-cut sep s at end e h =
-    let t : List ℕ = drop at s in
-    let m : ℕ = before sep t in
-    let inside : m < length t = omega (arith, length-drop at s) in
-    let there : at + (m + 1) ≡ end + 1 = omega arith in
-    let size : m ≡ end - at = omega arith in
-    pieces-cut sep t inside
-    ∙ ap (λ (k : ℕ). take k t ∷ pieces sep (drop (m + 1) t)) size
-    ∙ ap (λ (u : List ℕ). take (end - at) t ∷ pieces sep u) (drop-drop (m + 1) at s ∙ ap (λ (k : ℕ). drop k s) there)
 
 -- the line ahead of a place, and the place behind it, where its line feed ends it
 abbrev pub lineFrom : List ℕ → Cursor → Line
@@ -119,10 +106,7 @@ module _ (s : List ℕ) (p : Cursor) (i : ℕ) (S : Stands s p i) where
   ahead-cons h = S .ahead ∙ drop-cons (pieces lineFeed s) i [] h
 
   unfed-whole : length s ≤ lineEnd s (p .at) → pieces lineFeed (drop (p .at) s) ≡ drop (p .at) s ∷ []
-  unfed-whole h =
-      let past : length (drop (p .at) s) ≤ before lineFeed (drop (p .at) s) =
-      omega (arith, length-drop (p .at) s, end-at s (p .at), S .inside) in
-      pieces-whole lineFeed (drop (p .at) s) past
+  unfed-whole h = piece-last lineFeed s (p .at) (lineEnd s (p .at)) (end-at s (p .at)) h (S .inside)
 
   -- another line follows: a line feed is ahead
   more-fed : suc i < length (pieces lineFeed s) → lineEnd s (p .at) < length s

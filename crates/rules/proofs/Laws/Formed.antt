@@ -4,7 +4,7 @@ use mathlib.Core.Path.{_≡_, refl, sym, ap, subst}
 use Prim.Native.Nat.{ℕ, _+_, _*_, _≤_}
 use native.Mathlib.Omega.{arith}
 use native.Mathlib.Nat.{zero-mul}
-use mathlib.Core.Bool.{Bool, true, false, cond}
+use mathlib.Core.Bool.{Bool, true, false}
 use mathlib.Core.List.{List, [], _∷_}
 use mathlib.Core.Option.{none}
 use lib.Dec.{ltb, eqb}
@@ -27,13 +27,13 @@ use Rattle.rules.specs.Grown.{withResult, withOutputs}
 use Rattle.rules.specs.Scope.{drawn}
 use Rattle.rules.specs.Faults.{block, statementCount, exceeds}
 use Rattle.rules.specs.Limits.{mostVariables, mostInputs, mostStatements}
-use Rattle.rules.specs.Scope.{opIn, letOps}
-use Rattle.rules.specs.Added.{atLine}
+use Rattle.rules.specs.Scope.{opIn}
 use Rattle.rules.specs.Added.{added}
 use Rattle.rules.specs.Read.{routine, readText}
 use Rattle.rules.specs.Formed.{Each, FormedOp, FormedStatement, FormedMap, Formed}
 use Rattle.rules.proofs.Laws.Keeping.{Accepts, read-keeps}
 use Rattle.rules.proofs.Laws.Letting.{each-append, operand-formed, let-formed}
+use Rattle.rules.proofs.Laws.Stating.{stated}
 use Rattle.tokens.proofs.Laws.Flags.{true-false, or-false}
 use Rattle.grammar.proofs.Laws.Holding.{FormedTerm, FormedFormula}
 use Rattle.grammar.proofs.Laws.Fits.{Fits, fit-shares, fit-map, fit-input, fit-origin, fit-set, fit-xor, fit-mul}
@@ -87,81 +87,54 @@ op-formed ms maps v (app f a) h = operand-formed ms a h
 op-formed ms maps v rand h = tt
 
 module _ (s : State) (K : Kept s) (n stage : ℕ) (moved : stage ≡ atStart → ⊥) where
-  -- nothing but the stage, or the result or the outputs, is new
-  same-kept : Kept (atStage stage s)
-  unfolding atStage
-  same-kept = record {
+  -- nothing but the stage, the result and the outputs is new
+  same-kept : (p : ℕ) (os : List ℕ) → Kept (atStage stage (withOutputs os (withResult p s)))
+  unfolding atStage withOutputs withResult
+  same-kept p os = record {
     maps = K .maps;
     origin = K .origin;
     masked = K .masked;
     fits = K .fits;
     room = K .room;
-    begun = λ e.
-        absurd (moved e);
+    begun = λ e. absurd (moved e);
+  }
+
+  -- more statements, whose constants are bytes
+  stated-kept : (b : Bool) (ns : List Name) (sts : List Statement) (v : ℕ) → s .variables ≤ v → v ≤ mostVariables
+      → Each FormedStatement sts → Kept (atStage stage (stated b ns sts v s))
+  unfolding atStage
+  stated-kept true ns sts v l u h = record {
+    maps = K .maps;
+    origin = K .origin;
+    masked = each-append FormedStatement (s .masked .statements) sts (K .masked) h;
+    fits = omega (arith, K .fits);
+    room = u;
+    begun = λ e. absurd (moved e);
+  }
+  stated-kept false ns sts v l u h = record {
+    maps = K .maps;
+    origin = each-append FormedStatement (s .origin .statements) sts (K .origin) h;
+    masked = K .masked;
+    fits = K .fits;
+    room = K .room;
+    begun = λ e. absurd (moved e);
   }
 
   assign-kept : (x : Name) (f : Form) → FormedForm f → exceeds s (assign x f) ≡ false
       → Kept (atStage stage (added n (assign x f) s))
-  unfolding atStage added exceeds withMasked withOrigin
-  assign-kept x f h e = go (eqb (s .stage) inMasked)
-    where
-      st : Statement
-      st = record { op = opIn (block s .names) (s .mapNames) (s .variables) f; line = n }
-
-      formed : FormedStatement st
-      formed = op-formed (block s .names) (s .mapNames) (s .variables) f h
-
-      bound : s .variables + drawn f ≤ mostVariables
-      bound =
-          ltb-false mostVariables (s .variables + drawn f)
-          (or-false (ltb mostStatements (statementCount s + 1)) (ltb mostVariables (s .variables + drawn f)) e .1)
-
-      go : (b : Bool) → Kept (atStage stage (cond b (withMasked (drawn f) x st s) (withOrigin x st s)))
-      go true = record {
-        maps = K .maps;
-        origin = K .origin;
-        masked = each-append FormedStatement (s .masked .statements) (st ∷ []) (K .masked) (formed, tt);
-        fits = omega (arith, K .fits);
-        room = bound;
-        begun = λ e. absurd (moved e);
-      }
-      go false = record {
-        maps = K .maps;
-        origin = each-append FormedStatement (s .origin .statements) (st ∷ []) (K .origin) (formed, tt);
-        masked =
-            K .masked;
-        fits = K .fits;
-        room = K .room;
-        begun = λ e. absurd (moved e);
-      }
+  unfolding added exceeds withMasked withOrigin
+  assign-kept x f h e =
+      stated-kept (eqb (s .stage) inMasked) (x ∷ []) _ (s .variables + drawn f) (omega arith)
+      (ltb-false mostVariables (s .variables + drawn f)
+      (or-false (ltb mostStatements (statementCount s + 1)) (ltb mostVariables (s .variables + drawn f)) e .1))
+      (op-formed (block s .names) (s .mapNames) (s .variables) f h, tt)
 
   let-kept : (x : Name) (f : Formula) → FormedFormula f → Kept (atStage stage (added n (letting x f) s))
-  unfolding atStage added withMaskedAll withOriginAll
-  let-kept x f h = go (eqb (s .stage) inMasked)
-    where
-      ms : List Name
-      ms = block s .names
-
-      sts : List Statement
-      sts = atLine n (letOps ms (s .mapNames) (length ms) f)
-
-      go : (b : Bool) → Kept (atStage stage (cond b (withMaskedAll x sts s) (withOriginAll x sts s)))
-      go true = record {
-        maps = K .maps;
-        origin = K .origin;
-        masked = let-formed ms (s .mapNames) (length ms) n f h (s .masked .statements) (K .masked);
-        fits = K .fits;
-        room = K .room;
-        begun = λ e. absurd (moved e);
-      }
-      go false = record {
-        maps = K .maps;
-        origin = let-formed ms (s .mapNames) (length ms) n f h (s .origin .statements) (K .origin);
-        masked = K .masked;
-        fits = K .fits;
-        room = K .room;
-        begun = λ e. absurd (moved e);
-      }
+  unfolding added withMaskedAll withOriginAll
+  let-kept x f h =
+      let ms : List Name = block s .names in
+      stated-kept (eqb (s .stage) inMasked) _ _ (s .variables) (omega arith) (K .room)
+      (let-formed ms (s .mapNames) (length ms) n f h [] tt)
 
 -- a record that may stand and exceeds nothing
 added-kept : (s : State) → Kept s → (n : ℕ) {w : Word} {r : Record} → Fits w r → mayStand w (s .stage) ≡ true
@@ -201,7 +174,8 @@ added-kept s K n (fit-input {n = x}) m e =
       room = bound;
       begun = λ e. omega arith;
     }
-added-kept s K n fit-origin m e = same-kept s K n (stageAfter Origin (s .stage)) (moves Origin (s .stage) m)
+added-kept s K n fit-origin m e =
+    same-kept s K n (stageAfter Origin (s .stage)) (moves Origin (s .stage) m) (s .result) (s .outputs)
 added-kept s K n (fit-set {n = x} {a = a} h) m e = assign-kept s K n (s .stage) (moves Set (s .stage) m) x (set a) h e
 added-kept s K n (fit-xor {n = x} {a = a} {b = b} h k) m e = assign-kept s K n (s .stage) (moves Xor (s .stage) m) x
     (xor a b) (h, k) e
@@ -211,23 +185,12 @@ added-kept s K n (fit-app {n = x} {f = f} {a = a} h) m e = assign-kept s K n (s 
     (app f a) h e
 added-kept s K n (fit-let {n = x} {f = f} h) m e = let-kept s K n (s .stage) (moves Let (s .stage) m) x f h
 added-kept s K n (fit-rand {n = x}) m e = assign-kept s K n (s .stage) (moves Rand (s .stage) m) x rand tt e
-added-kept s K n fit-result m e = record {
-  maps = K .maps;
-  origin = K .origin;
-  masked = K .masked;
-  fits = K .fits;
-  room = K .room;
-  begun = λ e. omega arith;
-}
-added-kept s K n fit-masked m e = same-kept s K n (stageAfter Masked (s .stage)) (moves Masked (s .stage) m)
-added-kept s K n fit-output m e = record {
-  maps = K .maps;
-  origin = K .origin;
-  masked = K .masked;
-  fits = K .fits;
-  room = K .room;
-  begun = λ e. omega arith;
-}
+added-kept s K n fit-result m e =
+    same-kept s K n (stageAfter Result (s .stage)) (moves Result (s .stage) m) _ (s .outputs)
+added-kept s K n fit-masked m e =
+    same-kept s K n (stageAfter Masked (s .stage)) (moves Masked (s .stage) m) (s .result) (s .outputs)
+added-kept s K n fit-output m e =
+    same-kept s K n (stageAfter Output (s .stage)) (moves Output (s .stage) m) (s .result) _
 
 -- THEOREM
 pub read-formed : (text : List ℕ) → Accepts Formed (readText text)

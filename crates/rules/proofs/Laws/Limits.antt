@@ -1,12 +1,12 @@
 -- THEOREM: the routine of every accepted text is within the limits.
 -- Assumes nothing.
 use mathlib.Core.Path.{_≡_, refl, sym, subst}
-use Prim.Native.Nat.{ℕ, _+_, _-_, _≤_}
+use Prim.Native.Nat.{ℕ, _+_, _≤_}
 use native.Mathlib.Omega.{arith}
-use mathlib.Core.Bool.{Bool, true, false, cond}
-use mathlib.Core.List.{List, [], _∷_, _++_}
+use mathlib.Core.Bool.{Bool, true, false}
+use mathlib.Core.List.{List, [], _∷_}
 use lib.Dec.{ltb, eqb}
-use lib.ListN.{length, replicate, length-append}
+use lib.ListN.{length, length-append}
 use borrow.Author.Tests.{ltb-false}
 use Rattle.tokens.specs.declared.word.Word.{Word}
 use Rattle.tokens.specs.declared.word.Word.the-variants.{Map, Input, Origin, Set, Xor, Mul, App, Let, Rand}
@@ -16,15 +16,14 @@ use Rattle.tokens.specs.Token.{Name}
 use Rattle.grammar.specs.Formula.{Formula}
 use Rattle.grammar.specs.Record.{Form, set, xor, mul, app, rand, Record, assign, letting}
 use Rattle.rules.specs.Order.{atStart, inMasked, mayStand, stageAfter}
-use Rattle.rules.specs.State.{State, start}
+use Rattle.rules.specs.State.{Block, State, start}
 use Rattle.rules.specs.Grown.{atStage, withShares, withMap, withInput}
-use Rattle.rules.specs.Stated.{withOrigin, withMasked}
-use Rattle.rules.specs.Stated.{unnamed, withOriginAll, withMaskedAll}
+use Rattle.rules.specs.Stated.{originAs, maskedAs, withOrigin, withMasked, withOriginAll, withMaskedAll}
 use Rattle.rules.specs.Grown.{withResult, withOutputs}
 use Rattle.rules.specs.Scope.{drawn}
 use Rattle.rules.specs.Faults.{statementCount, exceeds}
 use Rattle.rules.specs.Limits.{mostMaps, mostInputs, mostVariables, mostStatements}
-use Rattle.rules.specs.Scope.{opIn, letCount, letOps, shareNames}
+use Rattle.rules.specs.Scope.{letCount, letOps, shareNames}
 use Rattle.rules.specs.Added.{atLine}
 use Rattle.rules.specs.Faults.{block}
 use Rattle.rules.specs.Added.{added}
@@ -33,7 +32,8 @@ use Rattle.rules.specs.Ranged.{Limited}
 use Rattle.grammar.proofs.Laws.Fits.{Fits, fit-shares, fit-map, fit-input, fit-origin, fit-set, fit-xor, fit-mul}
 use Rattle.grammar.proofs.Laws.Fits.{fit-app, fit-let, fit-rand, fit-result, fit-masked, fit-output}
 use Rattle.tokens.proofs.Laws.Flags.{true-false, or-false}
-use Rattle.rules.proofs.Laws.Letting.{let-length, let-more}
+use Rattle.rules.proofs.Laws.Letting.{let-length, let-named}
+use Rattle.rules.proofs.Laws.Stating.{longer, stated}
 use Rattle.rules.proofs.Laws.Reads.{length-shares}
 use Rattle.rules.proofs.Laws.Keeping.{Passed, Accepts, read-keeps}
 
@@ -67,102 +67,64 @@ behind : (s : State) (w : Word) → mayStand w atStart ≡ false → mayStand w 
 behind s w z m e = true-false (sym (subst (λ (b : Bool). b ≡ true) z (subst (λ (k : ℕ). mayStand w k ≡ true) e m)))
 
 module _ (s : State) (K : Bounded s) (n k : ℕ) (b : s .stage ≡ atStart → ⊥) where
-  -- nothing that is bounded is new
-  same-bounded : Bounded (atStage k s)
-  unfolding atStage
-  same-bounded = record {
+  -- other blocks within the limits, and v variables in all
+  blocks-bounded : (v p : ℕ) (os : List ℕ) (o m : Block) → v ≤ mostVariables
+      → length (o .statements) + length (m .statements) ≤ mostStatements
+      → length (o .names) ≤ s .inputs + length (o .statements) → length (m .names) ≤ v + length (m .statements)
+      → Bounded (atStage k (withOutputs os (withResult p (maskedAs m v (originAs o s)))))
+  unfolding atStage withOutputs withResult
+  blocks-bounded v p os o m u c x y = record {
     begun = λ h. K .begun b;
     shares = K .shares;
     maps = K .maps;
     inputs = K .inputs;
-    variables = K .variables;
-    statements = K .statements;
-    origin = K .origin;
-    masked = K .masked;
+    variables = u;
+    statements = c;
+    origin = x;
+    masked = y;
   }
 
+  -- nothing that is bounded is new
+  same-bounded : (p : ℕ) (os : List ℕ) → Bounded (atStage k (withOutputs os (withResult p s)))
+  unfolding atStage withOutputs withResult
+  same-bounded p os =
+      blocks-bounded (s .variables) p os (s .origin) (s .masked) (K .variables) (K .statements) (K .origin) (K .masked)
+
+  -- more statements within the limits, each with a name
+  stated-bounded : (t : Bool) (ns : List Name) (sts : List Statement) (v : ℕ) → s .variables ≤ v → v ≤ mostVariables
+      → length ns ≡ length sts → statementCount s + length sts ≤ mostStatements
+      → Bounded (atStage k (stated t ns sts v s))
+  unfolding atStage withOutputs withResult statementCount
+  stated-bounded true ns sts v l u e m =
+      let count = length-append (s .masked .statements) sts in
+      blocks-bounded v (s .result) (s .outputs) (s .origin) (longer ns sts (s .masked)) u (omega (arith, m, count))
+      (K .origin) (omega (arith, K .masked, count, length-append (s .masked .names) ns))
+  stated-bounded false ns sts v l u e m =
+      let count = length-append (s .origin .statements) sts in
+      blocks-bounded (s .variables) (s .result) (s .outputs) (longer ns sts (s .origin)) (s .masked) (K .variables)
+      (omega (arith, m, count)) (omega (arith, K .origin, count, length-append (s .origin .names) ns)) (K .masked)
+
   assign-bounded : (x : Name) (f : Form) → exceeds s (assign x f) ≡ false → Bounded (atStage k (added n (assign x f) s))
-  unfolding atStage added exceeds statementCount withMasked withOrigin
-  assign-bounded x f e = go (eqb (s .stage) inMasked)
-    where
-      st : Statement
-      st = record { op = opIn (block s .names) (s .mapNames) (s .variables) f; line = n }
-
-      within : (ltb mostStatements (statementCount s + 1) ≡ false)
-          × (ltb mostVariables (s .variables + drawn f) ≡ false)
-      within = or-false (ltb mostStatements (statementCount s + 1)) (ltb mostVariables (s .variables + drawn f)) e
-
-      room : statementCount s + 1 ≤ mostStatements
-      room = ltb-false mostStatements (statementCount s + 1) (within .0)
-
-      more : (ns : List Name) (ss : List Statement) (m : ℕ) → length ns ≤ m + length ss
-          → length (ns ++ x ∷ []) ≤ m + length (ss ++ st ∷ [])
-      more ns ss m h = omega (arith, h, length-append ns (x ∷ []), length-append ss (st ∷ []))
-
-      go : (t : Bool) → Bounded (atStage k (cond t (withMasked (drawn f) x st s) (withOrigin x st s)))
-      go true = record {
-        begun = λ h. K .begun b;
-        shares = K .shares;
-        maps = K .maps;
-        inputs = K .inputs;
-        variables = ltb-false mostVariables (s .variables + drawn f) (within .1);
-        statements = omega (arith, room, length-append (s .masked .statements) (st ∷ []));
-        origin = K .origin;
-        masked = more (s .masked .names) (s .masked .statements) (s .variables + drawn f) (omega (arith, K .masked));
-      }
-      go false = record {
-        begun = λ h. K .begun b;
-        shares = K .shares;
-        maps = K .maps;
-        inputs = K .inputs;
-        variables = K .variables;
-        statements = omega (arith, room, length-append (s .origin .statements) (st ∷ []));
-        origin = more (s .origin .names) (s .origin .statements) (s .inputs) (K .origin);
-        masked = K .masked;
-      }
+  unfolding added exceeds withMasked withOrigin
+  assign-bounded x f e =
+      let within =
+      or-false (ltb mostStatements (statementCount s + 1)) (ltb mostVariables (s .variables + drawn f)) e in
+      stated-bounded (eqb (s .stage) inMasked) (x ∷ []) _ (s .variables + drawn f) (omega arith)
+      (ltb-false mostVariables (s .variables + drawn f) (within .1)) refl
+      (ltb-false mostStatements (statementCount s + 1) (within .0))
 
   let-bounded : (x : Name) (f : Formula) → exceeds s (letting x f) ≡ false
       → Bounded (atStage k (added n (letting x f) s))
-  unfolding atStage added exceeds statementCount withMaskedAll withOriginAll
-  let-bounded x f e = go (eqb (s .stage) inMasked)
-    where
-      ms : List Name
-      ms = block s .names
-
-      sts : List Statement
-      sts = atLine n (letOps ms (s .mapNames) (length ms) f)
-
-      room : statementCount s + letCount f ≤ mostStatements
-      room = ltb-false mostStatements (statementCount s + letCount f) e
-
-      count : length sts ≡ letCount f
-      count = let-length ms (s .mapNames) (length ms) n f
-
-      more : (ns : List Name) (ss : List Statement) (m : ℕ) → length ns ≤ m + length ss
-          → length (ns ++ (replicate (length sts - 1) unnamed ++ x ∷ [])) ≤ m + length (ss ++ sts)
-      more ns ss m h = omega (arith, h, let-more ns x ms (s .mapNames) (length ms) n f, length-append ss sts)
-
-      go : (t : Bool) → Bounded (atStage k (cond t (withMaskedAll x sts s) (withOriginAll x sts s)))
-      go true = record {
-        begun = λ h. K .begun b;
-        shares = K .shares;
-        maps = K .maps;
-        inputs = K .inputs;
-        variables = K .variables;
-        statements = omega (arith, room, count, length-append (s .masked .statements) sts);
-        origin = K .origin;
-        masked = more (s .masked .names) (s .masked .statements) (s .variables) (K .masked);
-      }
-      go false = record {
-        begun = λ h. K .begun b;
-        shares = K .shares;
-        maps = K .maps;
-        inputs = K .inputs;
-        variables = K .variables;
-        statements = omega (arith, room, count, length-append (s .origin .statements) sts);
-        origin = more (s .origin .names) (s .origin .statements) (s .inputs) (K .origin);
-        masked = K .masked;
-      }
+  unfolding added exceeds withMaskedAll withOriginAll
+  let-bounded x f e =
+      let ms : List Name = block s .names in
+      stated-bounded (eqb (s .stage) inMasked) _ (atLine n (letOps ms (s .mapNames) (length ms) f)) (s .variables)
+      (omega arith) (K .variables) (let-named x ms (s .mapNames) (length ms) n f)
+      (omega (
+        arith,
+        ltb-false mostStatements (statementCount s + letCount f) e,
+        let-length ms (s .mapNames) (length ms) n f,
+      ))
 
 -- a record that no refusal stops keeps the limits
 pub added-bounded : (s : State) → Bounded s → (n : ℕ) {w : Word} {r : Record} → Fits w r → Passed s w r
@@ -207,7 +169,8 @@ added-bounded s K n (fit-input {n = x}) p =
         length-shares x 0 (s .shares),
       );
     }
-added-bounded s K n fit-origin p = same-bounded s K n (stageAfter Origin (s .stage)) (behind s Origin refl (p .stands))
+added-bounded s K n fit-origin p =
+    same-bounded s K n (stageAfter Origin (s .stage)) (behind s Origin refl (p .stands)) (s .result) (s .outputs)
 added-bounded s K n (fit-set {n = x} {a = a} h) p =
     assign-bounded s K n (s .stage) (behind s Set refl (p .stands)) x (set a) (p .within)
 added-bounded s K n (fit-xor {n = x} {a = a} {b = b} h k) p =
@@ -220,27 +183,12 @@ added-bounded s K n (fit-let {n = x} {f = f} h) p =
     let-bounded s K n (s .stage) (behind s Let refl (p .stands)) x f (p .within)
 added-bounded s K n (fit-rand {n = x}) p =
     assign-bounded s K n (s .stage) (behind s Rand refl (p .stands)) x rand (p .within)
-added-bounded s K n fit-result p = record {
-  begun = λ h. K .begun (behind s Result refl (p .stands));
-  shares = K .shares;
-  maps = K .maps;
-  inputs = K .inputs;
-  variables = K .variables;
-  statements = K .statements;
-  origin = K .origin;
-  masked = K .masked;
-}
-added-bounded s K n fit-masked p = same-bounded s K n (stageAfter Masked (s .stage)) (behind s Masked refl (p .stands))
-added-bounded s K n fit-output p = record {
-  begun = λ h. K .begun (behind s Output refl (p .stands));
-  shares = K .shares;
-  maps = K .maps;
-  inputs = K .inputs;
-  variables = K .variables;
-  statements = K .statements;
-  origin = K .origin;
-  masked = K .masked;
-}
+added-bounded s K n fit-result p =
+    same-bounded s K n (stageAfter Result (s .stage)) (behind s Result refl (p .stands)) _ (s .outputs)
+added-bounded s K n fit-masked p =
+    same-bounded s K n (stageAfter Masked (s .stage)) (behind s Masked refl (p .stands)) (s .result) (s .outputs)
+added-bounded s K n fit-output p =
+    same-bounded s K n (stageAfter Output (s .stage)) (behind s Output refl (p .stands)) (s .result) _
 
 -- THEOREM
 pub read-limited : (text : List ℕ) → Accepts Limited (readText text)

@@ -26,8 +26,7 @@ use Rattle.grammar.proofs.Laws.Fits.{fit-app, fit-let, fit-rand, fit-result, fi
 use Rattle.rules.proofs.Laws.Reads.{one-of, at-most}
 use Rattle.rules.proofs.Laws.Keeping.{Passed, Accepts, read-keeps}
 use Rattle.rules.proofs.Laws.Placed.{Placed, start-placed, shares-placed, map-placed, input-placed}
-use Rattle.rules.proofs.Laws.Placed.{stage-placed, assign-placed, result-placed, output-placed}
-use Rattle.rules.proofs.Laws.LetPlaced.{let-placed}
+use Rattle.rules.proofs.Laws.Placed.{stage-placed, assign-placed, let-placed, result-placed, output-placed}
 
 -- a record that no refusal stops
 added-placed : (s : State) → Placed s → (n : ℕ) {w : Word} {r : Record} → Fits w r → Passed s w r
@@ -67,8 +66,8 @@ pub read-ranged : (text : List ℕ) → Accepts Ranged (readText text)
 unfolding routine
 read-ranged =
     read-keeps Placed Ranged start-placed (λ s K n w r f p. added-placed s K n f p) (λ s K n e. record {
-      origin = K .origin;
-      masked = K .masked;
+      origin = K .origin .above;
+      masked = K .masked .above;
       result = K .resulted (omega arith);
       outputs = K .listed (omega arith);
       count = K .counted (omega arith);

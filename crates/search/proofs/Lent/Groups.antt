@@ -24,7 +24,7 @@ use Rattle.buffer.specs.Move.{MovedDown, Written}
 use Rattle.search.specs.Put.{Led, carry, sameNext}
 use Rattle.poly.proofs.Laws.Order.{order-same, orElse-eq}
 use Rattle.buffer.proofs.Lent.Moves.{stored}
-use Rattle.buffer.proofs.Lent.Places.{answer-same}
+use Rattle.buffer.proofs.Lent.Places.{answer-unique}
 
 -- ---- the powers behind variable i
 
@@ -106,7 +106,7 @@ module _ (m i a c : ℕ) (d : ℕ) (e : List ℕ) where
   carry-on [] h l p s = let z : _≡_ {A = ℕ} 0 1 = cc in absurd (omega arith)
   carry-on (term d′ f ∷ q) h l p s =
       let o : order (set e i 0) (set f i 0) ≡ Ordering·eq =
-      order-led i e f l (p .0 .1) h (p .0 .0) ∙ answer-same (order (drop (suc i) e) (drop (suc i) f))
+      order-led i e f l (p .0 .1) h (p .0 .0) ∙ answer-unique (order (drop (suc i) e) (drop (suc i) f)) Ordering·eq
       (eqb-true (answer (order (drop (suc i) e) (drop (suc i) f))) 1 s) in
       let v : ℕ = times m d′ (power (times m) a (getD f i 0)) in
       let r : Poly = putSlotRaw F i a q in

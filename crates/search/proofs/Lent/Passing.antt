@@ -43,7 +43,7 @@ read-long i n b at (suc k) h l =
 -- ---- the table of powers
 
 -- the table holds the powers
-pub table-at : (m a : ℕ) (table : List ℕ) (x : ℕ) → table ≡ listOf 256 (power (times m) a) → x < 256
+table-at : (m a : ℕ) (table : List ℕ) (x : ℕ) → table ≡ listOf 256 (power (times m) a) → x < 256
     → getD table x 0 ≡ power (times m) a x
 table-at m a table x e h = ap (λ (l : List ℕ). getD l x 0) e ∙ getD-listOf 256 (power (times m) a) 0 x h
 
@@ -100,16 +100,18 @@ module _ (m : ℕ) (b : List ℕ) (k w i a j r c : ℕ) (h : StepAsked b k w i j
       (omega (arith, h .source, add-mul (k - suc j) (suc j) w, ap (λ (x : ℕ). x * w) u))))
 
   -- the value that the code gathers
-  pub value-here : getD b (j * w + 1 + i) 0 ≡ getD e i 0
+  value-here : getD b (j * w + 1 + i) 0 ≡ getD e i 0
   value-here =
       let u : j * w + 1 + i ≡ suc (j * w) + i = omega arith in
       ap (λ (x : ℕ). getD b x 0) u ∙ sym (getD-take n (drop (suc (j * w)) b) i 0 (omega (arith, h .inside))
       ∙ getD-drop (suc (j * w)) b i 0)
 
-  -- the sum that the code gathers
-  pub sum-here : (x y : ℕ) → x ≡ times m d y → y ≡ power (times m) a (getD b (j * w + 1 + i) 0)
-      → c ⊕ x ≡ gathered m i a c d e
-  sum-here x y p q = ap (λ (z : ℕ). c ⊕ z) (p ∙ ap (times m d) (q ∙ ap (power (times m) a) value-here))
+  -- the sum that the code gathers, by the table of the powers of a
+  pub sum-here : (table : List ℕ) (x : ℕ) → table ≡ listOf 256 (power (times m) a) → getD b (j * w + 1 + i) 0 < 256
+      → x ≡ times m d (getD table (getD b (j * w + 1 + i) 0) 0) → c ⊕ x ≡ gathered m i a c d e
+  sum-here table x t l p =
+      ap (λ (z : ℕ). c ⊕ z) (p ∙ ap (times m d)
+      (table-at m a table (getD b (j * w + 1 + i) 0) t l ∙ ap (power (times m) a) value-here))
 
   module _ (s : ℕ) (sum : s ≡ gathered m i a c d e) where
     -- the group goes on

@@ -21,7 +21,7 @@ use Rattle.poly.proofs.Laws.Order.{gt≢lt}
 use Rattle.poly.proofs.Laws.Normal.{canon-raw}
 use Rattle.poly.proofs.Laws.Put.{putSlot-raw}
 use Rattle.poly.proofs.Laws.Pass.{Rising, Rises, pass-normal}
-use Rattle.buffer.proofs.Lent.Compare.{decided-gt}
+use Rattle.buffer.proofs.Lent.Compare.{decided}
 use Rattle.buffer.proofs.Lent.Reads.{read-parts, read-same}
 use Rattle.search.proofs.Lent.Groups.{order-led}
 use Rattle.search.proofs.Lent.Passing.{both}
@@ -46,7 +46,7 @@ module _ (F : Ops) (n i a : ℕ) (l : i < n) where
   not-falling e f h k o g =
       let x : length e ≡ n = bytes-length n e (h .1) in
       let y : length f ≡ n = bytes-length n f (k .1) in
-      gt≢lt (sym (decided-gt (suc i) e f (omega arith) (omega arith)
+      gt≢lt (sym (decided Ordering·gt (λ r. refl) (suc i) e f (omega arith) (omega arith)
       (sym (order-led i e f (omega arith) (omega arith) (h .0) (k .0)) ∙ g)) ∙ o)
 
   -- and so from each term on

@@ -137,12 +137,12 @@ pub record Trying (m w i : ℕ) (b₀ : List ℕ) (left₀ tried₀ : ℕ) (b : 
   pub count : n ≡ tried₀ + a
   pub below : a ≤ firstByte (gf m) (rest w i b₀ left₀)
 
-module _ (m w i : ℕ) (b₀ : List ℕ) (left₀ tried₀ : ℕ) where
+module _ {m w i : ℕ} {b₀ : List ℕ} {left₀ tried₀ : ℕ} where
   -- at first none is tried
   pub trying-start : suc i < w → Left m w i b₀ left₀ → Trying m w i b₀ left₀ tried₀ b₀ left₀ tried₀ 0
   trying-start l h = record { inside = l; state = h; same = refl; terms = refl; count = omega arith; below = zero-le }
 
-  module _ (b : List ℕ) (left n a : ℕ) (h : Trying m w i b₀ left₀ tried₀ b left n a) where
+  module _ {b : List ℕ} {left n a : ℕ} (h : Trying m w i b₀ left₀ tried₀ b left n a) where
     -- the terms are as they were
     state-here : Left m w i b left
     state-here =
@@ -161,9 +161,9 @@ module _ (m w i : ℕ) (b₀ : List ℕ) (left₀ tried₀ : ℕ) where
     trying-asks = left-asks m w i b left (h .inside) state-here
 
     -- a leaves no term: the next byte
-    pub trying-more : (b′ : List ℕ) (r : ℕ) → Put m b b′ left w i a r → r ≡ 0
+    pub trying-more : {b′ : List ℕ} {r : ℕ} → Put m b b′ left w i a r → r ≡ 0
         → Trying m w i b₀ left₀ tried₀ b′ left (n + 1) (a + 1)
-    trying-more b′ r g z =
+    trying-more {b′} {r} g z =
         let f : a < firstByte (gf m) (rest w i b left) =
         left-on m w i b left (h .inside) state-here b′ a r g
         (subst (λ (x : Poly). a ≤ firstByte (gf m) x) (sym rest-here) (h .below)) z in
@@ -175,11 +175,6 @@ module _ (m w i : ℕ) (b₀ : List ℕ) (left₀ tried₀ : ℕ) where
           count = omega (arith, h .count);
           below = subst (λ (x : Poly). a + 1 ≤ firstByte (gf m) x) rest-here (omega arith);
         }
-
-    -- a byte below 255 is left
-    pub trying-less : (b′ : List ℕ) (r : ℕ) → Put m b b′ left w i a r → r ≡ 0 → a < 255
-    trying-less b′ r g z =
-        omega (arith, left-bound m w i b₀ left₀ (h .inside) (h .state), (trying-more b′ r g z) .below)
 
 -- ---- the loop over variables: bytes are found for the first i, and put in
 
@@ -204,9 +199,9 @@ tried-more : (a : ℕ) (xs : List ℕ) → tried (a ∷ xs) ≡ a + 1 + tried xs
 tried-more a xs = omega arith
 
 -- at first no byte is found
-pub finding-start : (m : ℕ) (b : List ℕ) (k w : ℕ) (bytes : List ℕ) → SearchAsked m b k w bytes
+pub finding-start : {m : ℕ} {b : List ℕ} {k w : ℕ} {bytes : List ℕ} → SearchAsked m b k w bytes
     → Finding m b k w bytes b bytes k 0 0
-finding-start m b k w bytes a =
+finding-start {m} {b} {k} {w} a =
     let p : Poly = readTerms (w - 1) b 0 k in
     let e : rest w 0 b k ≡ p = cut-none p in
     let z : w - 1 - 0 ≡ w - 1 = omega arith in
@@ -232,13 +227,13 @@ finding-start m b k w bytes a =
       count = zero-add (tried (firstDiffering (gf m) (w - 1 - 0) (rest w 0 b k))) ∙ ap tried f;
     }
 
-module _ (m : ℕ) (b₀ : List ℕ) (k w : ℕ) (bytes₀ b bytes : List ℕ) (left n i : ℕ)
+module _ {m : ℕ} {b₀ : List ℕ} {k w : ℕ} {bytes₀ b bytes : List ℕ} {left n i : ℕ}
     (h : Finding m b₀ k w bytes₀ b bytes left n i) where
   -- the byte a is found, by the a + 1 that were tried
-  pub finding-more : (b₁ b′ : List ℕ) (left₁ n₁ a r : ℕ) → i + 1 < w → Trying m w i b left n b₁ left₁ n₁ a
+  pub finding-more : {b₁ b′ : List ℕ} {left₁ n₁ a r : ℕ} → Trying m w i b left n b₁ left₁ n₁ a
       → Put m b₁ b′ left₁ w i a r → 0 < r
       → Finding m b₀ k w bytes₀ b′ (set bytes i a) r (n₁ + 1) (i + 1)
-  finding-more b₁ b′ left₁ n₁ a r l t g₁ z =
+  finding-more {b₁} {b′} {left₁} {n₁} {a} {r} t g₁ z =
       let g : Put m b b′ left w i a r =
       subst (λ (x : ℕ). Put m b b′ x w i a r) (t .terms)
       (subst (λ (x : List ℕ). Put m x b′ left₁ w i a r) (t .same) g₁) in
@@ -257,7 +252,7 @@ module _ (m : ℕ) (b₀ : List ℕ) (k w : ℕ) (bytes₀ b bytes : List ℕ) (
         high = λ x p. g .held .high x (omega (arith, mul-le-mul-right w (h .fewer))) ∙ h .high x p;
         listed = c ∙ h .listed;
         behind = λ x p. getD-set-other bytes i x a 0 (omega arith) ∙ h .behind x p;
-        bound = omega (arith, suc-mul i 256, h .bound, t .count, trying-bound m w i b left n b₁ left₁ n₁ a t);
+        bound = omega (arith, suc-mul i 256, h .bound, t .count, trying-bound t);
         found =
             ap {B = List ℕ} (λ (x : List ℕ). x ++ d) (take-suc-set bytes i a s) ∙ append-assoc (take i bytes) (a ∷ []) d
             ∙ ap {B = List ℕ} (λ (x : List ℕ). take i bytes ++ x) (sym e) ∙ h .found;

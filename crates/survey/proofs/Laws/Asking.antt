@@ -1,10 +1,9 @@
--- What the two walks ask holds of the routine of every accepted text: each map that is applied has a place, and the
--- buffers have room.
+-- What the two walks ask holds of the routine of every accepted text: each map that is applied has a place, each
+-- variable that is drawn is one of the block's, and the buffers have room.
 -- Assumes nothing.
-use mathlib.Core.Path.{_≡_, sym, _∙_, subst}
+use mathlib.Core.Path.{_≡_, sym, ap, _∙_, subst}
 use Prim.Native.Nat.{ℕ, zero, suc, _+_, _*_, _-_, _≤_, _<_}
 use native.Mathlib.Omega.{arith}
-use native.Mathlib.Decide.{decLt}
 use native.Mathlib.Nat.{mul-le-mul-left, mul-one}
 use mathlib.Core.List.{List, [], _∷_}
 use lib.ListN.{length, take, drop, getD, length-take}
@@ -20,7 +19,7 @@ use Rattle.values.specs.declared.shelf.Shelf.{Shelf}
 use Rattle.values.specs.declared.source.Scope.{Scope}
 use Rattle.survey.specs.declared.walk.Walk.{Walk}
 use Rattle.values.specs.Shelf.{bare}
-use Rattle.values.specs.Raw.{mostStanding, Mapped}
+use Rattle.values.specs.Raw.{mostStanding, Inside}
 use Rattle.values.specs.Value.{Workable}
 use Rattle.survey.specs.Walk.{blank, WalkAsked, Walked}
 use Rattle.survey.specs.Table.{Listed, Constants}
@@ -29,50 +28,45 @@ use Rattle.survey.specs.Survey.{OriginWalked, MaskedWalked}
 use Rattle.values.proofs.Laws.Shelves.{bare-sound}
 use Rattle.survey.proofs.Laws.Filling.{tabled}
 
--- ---- the maps that are applied
+-- ---- the maps that are applied, and the variables that are drawn
 
-mapped-op : (maps v at : ℕ) → maps ≤ 8 → (o : Op) → ReadsOp maps v at o → Mapped o
-mapped-op maps v at l (Set a) h = tt
-mapped-op maps v at l (Xor a b) h = tt
-mapped-op maps v at l (Mul a b) h = tt
-mapped-op maps v at l (App f a) h = omega (arith, h .0)
-mapped-op maps v at l (Rand x) h = tt
+inside-op : (maps v at : ℕ) → maps ≤ 8 → (o : Op) → ReadsOp maps v at o → Inside v o
+inside-op maps v at l (Set a) h = tt
+inside-op maps v at l (Xor a b) h = tt
+inside-op maps v at l (Mul a b) h = tt
+inside-op maps v at l (App f a) h = omega (arith, h .0)
+inside-op maps v at l (Rand x) h = h
 
 -- each statement of a block, and what stands past its end
-mapped-at : (maps v at : ℕ) → maps ≤ 8 → (ss : List Statement) → ReadsAbove maps v at ss → (i : ℕ)
-    → Mapped (getD ss i blank .op)
-mapped-at maps v at l [] h i = tt
-mapped-at maps v at l (s ∷ ss) h zero = mapped-op maps v at l (s .op) (h .0)
-mapped-at maps v at l (s ∷ ss) h (suc i) = mapped-at maps v (suc at) l ss (h .1) i
+inside-at : (maps v at : ℕ) → maps ≤ 8 → (ss : List Statement) → ReadsAbove maps v at ss → (i : ℕ)
+    → Inside v (getD ss i blank .op)
+inside-at maps v at l [] h i = tt
+inside-at maps v at l (s ∷ ss) h zero = inside-op maps v at l (s .op) (h .0)
+inside-at maps v at l (s ∷ ss) h (suc i) = inside-at maps v (suc at) l ss (h .1) i
 
 module _ {r : code.Routine} (Q : Ready r) where
   few-maps : length (mapsOf r) ≤ 8
   unfolding mapsOf
   few-maps = omega (arith, length-take (r .mapped) (r .maps), Q .counted .maps)
 
-  origin-mapped : (i : ℕ) → i < r .origin → Mapped (getD (r .statements) i blank .op)
+  -- the origin block draws no variable
+  origin-inside : (i : ℕ) → i < r .origin → Inside 0 (getD (r .statements) i blank .op)
   unfolding routineOf originOf
-  origin-mapped i h =
-      subst (λ (s : Statement). Mapped (s .op)) (getD-take (r .origin) (r .statements) i blank h)
-      (mapped-at (length (mapsOf r)) (r .variables) (r .inputs) few-maps (originOf r) (Q .ranged .origin) i)
+  origin-inside i h =
+      subst (λ (s : Statement). Inside 0 (s .op)) (getD-take (r .origin) (r .statements) i blank h)
+      (inside-at (length (mapsOf r)) 0 (r .inputs) few-maps (originOf r) (Q .ranged .origin) i)
 
-  masked-mapped : (i : ℕ) → i < r .masked → Mapped (getD (r .statements) (r .origin + i) blank .op)
+  -- the masked block may draw every variable
+  masked-inside : (i : ℕ) → r .origin ≤ i → i < r .origin + r .masked
+      → Inside (r .variables) (getD (r .statements) i blank .op)
   unfolding routineOf maskedOf
-  masked-mapped i h =
-      subst (λ (s : Statement). Mapped (s .op))
-      (getD-take (r .masked) (drop (r .origin) (r .statements)) i blank h
-      ∙ getD-drop (r .origin) (r .statements) i blank)
-      (mapped-at (length (mapsOf r)) (r .variables) (r .inputs * r .shares) few-maps (maskedOf r) (Q .ranged .masked) i)
-
-  -- the map that a statement of either block applies has a place in the table
-  pub all-mapped : (i : ℕ) → i < r .origin + r .masked → Mapped (getD (r .statements) i blank .op)
-  all-mapped i h = go (decLt i (r .origin))
-    where
-      go : Dec (i < r .origin) → Mapped (getD (r .statements) i blank .op)
-      go (yes l) = origin-mapped i l
-      go (no l) =
-          let e : r .origin + (i - r .origin) ≡ i = omega arith in
-          subst (λ (x : ℕ). Mapped (getD (r .statements) x blank .op)) e (masked-mapped (i - r .origin) (omega arith))
+  masked-inside i l h =
+      let j : ℕ = i - r .origin in
+      let e : r .origin + j ≡ i = omega arith in
+      subst (λ (s : Statement). Inside (r .variables) (s .op))
+      (getD-take (r .masked) (drop (r .origin) (r .statements)) j blank (omega arith)
+      ∙ getD-drop (r .origin) (r .statements) j blank ∙ ap (λ (x : ℕ). getD (r .statements) x blank) e)
+      (inside-at (length (mapsOf r)) (r .variables) (r .inputs * r .shares) few-maps (maskedOf r) (Q .ranged .masked) j)
 
 -- ---- room
 
@@ -119,7 +113,7 @@ module _ {r : code.Routine} {lists : List (List ℕ)} {constants left right : Li
     ordered = omega arith;
     inside = omega (arith, A .ready .counted .statements);
     count = omega (arith, A .ready .counted .statements);
-    mapped = λ i h. all-mapped (A .ready) i (omega arith);
+    reads = λ i l h. origin-inside (A .ready) i h;
     bounded = omega arith;
     top = omega arith;
     room = lent-room r left right (A .ready) (A .lent);
@@ -143,7 +137,7 @@ module _ {r : code.Routine} {lists : List (List ℕ)} {constants left right : Li
     ordered = omega arith;
     inside = A .ready .counted .statements;
     count = omega (arith, B .count, A .ready .counted .statements);
-    mapped = λ i h. all-mapped (A .ready) i h;
+    reads = λ i l h. masked-inside (A .ready) i l h;
     bounded = omega arith;
     top = B .top;
     room = lent-room r left right (A .ready) (A .lent);

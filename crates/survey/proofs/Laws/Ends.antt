@@ -16,7 +16,7 @@ use Rattle.values.specs.declared.source.Scope.{Scope}
 use Rattle.values.specs.Shelf.{stored, valueOf}
 use Rattle.values.specs.Source.{beginning, variablesOf, visible, reach}
 use Rattle.survey.specs.Walk.{topIn, part, Holds}
-use Rattle.values.proofs.Laws.Tables.{tabulate-length}
+use Rattle.verdict.proofs.Laws.Lists.{length-tabulate}
 
 -- where a block begins, its statements may read what it begins with
 pub reach-start : (w : ℕ) (b : List ℕ) (d : Shelf) (s : Scope) → s .base ≡ d .count
@@ -24,7 +24,7 @@ pub reach-start : (w : ℕ) (b : List ℕ) (d : Shelf) (s : Scope) → s .base �
 unfolding visible stored
 reach-start w b d s e =
     ap (λ (l : List Poly). beginning (w - 1) s ++ l)
-    (ap (λ (k : ℕ). drop k (stored w b d)) (e ∙ sym (tabulate-length (d .count) (valueOf w b d)))
+    (ap (λ (k : ℕ). drop k (stored w b d)) (e ∙ sym (length-tabulate (d .count) (valueOf w b d)))
     ∙ drop-length (stored w b d))
     ∙ append-nil (beginning (w - 1) s)
 

@@ -3,7 +3,6 @@
 use mathlib.Core.Path.{_≡_, sym, ap, _∙_}
 use Prim.Native.Nat.{ℕ, _+_, _-_, _≤_, _<_}
 use native.Mathlib.Omega.{arith}
-use native.Mathlib.Decide.{decLt}
 use borrow.Author.Tests.{lt-ltb, le-ltb}
 use mathlib.Core.Bool.{Bool, cond}
 use mathlib.Core.List.{List, [], _∷_, _++_}
@@ -24,9 +23,9 @@ use Rattle.verdict.specs.Instances.{polynomials}
 use Rattle.verdict.specs.Count.{applySize}
 use Rattle.values.specs.declared.source.Scope.{Scope}
 use Rattle.values.specs.Source.{variablesOf}
-use Rattle.values.specs.Raw.{rawIn}
+use Rattle.values.specs.Raw.{rawIn, Inside}
 use Rattle.survey.specs.Walk.{overIn, part}
-use Rattle.values.proofs.Laws.Tables.{tabulate-at, tabulate-past}
+use Rattle.values.proofs.Laws.Tables.{tabulate-at}
 
 module _ (most m n : ℕ) (maps : List AffineMap) (xs vs : List Poly) (top : ℕ) (t : Statement)
     (ts : List Statement) where
@@ -50,26 +49,25 @@ module _ (most m n : ℕ) (maps : List AffineMap) (xs vs : List Poly) (top : ℕ
       ∙ ap (λ (u : Poly). overIn most m n maps xs (vs ++ u ∷ []) (top + length u) ts) e
       ∙ ap (λ (u : ℕ). overIn most m n maps xs (vs ++ v ∷ []) (top + u) ts) l)
 
--- a variable that is drawn has at most one term
-drawn-small : (m n : ℕ) (s : Scope) (v : ℕ) → Dec (v < s .drawn)
+-- a variable that is drawn has one term
+drawn-small : (m n : ℕ) (s : Scope) (v : ℕ) → v < s .drawn
     → length (valueAt (polynomials m n) (variablesOf n s) v) ≤ 1
 unfolding valueAt variablesOf polynomials
-drawn-small m n s v (yes h) = rw (tabulate-at (s .drawn) (variable n) v [] h) (omega arith)
-drawn-small m n s v (no h) = rw (tabulate-past (s .drawn) (variable n) v [] (omega arith)) (omega arith)
+drawn-small m n s v h = rw (tabulate-at (s .drawn) (variable n) v [] h) (omega arith)
 
 -- a value has no more terms than its raw size
 pub given-small : (m n : ℕ) → Modulus m → (maps : List AffineMap) (s : Scope) (vs : List Poly) (o : Op)
-    → length (given (polynomials m n) maps (variablesOf n s) vs o) ≤ rawIn m n maps vs o
+    → Inside (s .drawn) o → length (given (polynomials m n) maps (variablesOf n s) vs o) ≤ rawIn m n maps vs o
 unfolding given rawIn polynomials applySize
-given-small m n M maps s vs (Set a) = omega arith
-given-small m n M maps s vs (Xor a b) = add-size (gf m) (operand (polynomials m n) vs a)
+given-small m n M maps s vs (Set a) h = omega arith
+given-small m n M maps s vs (Xor a b) h = add-size (gf m) (operand (polynomials m n) vs a)
     (operand (polynomials m n) vs b)
-given-small m n M maps s vs (Mul a b) = mul-size (gf m) (operand (polynomials m n) vs a)
+given-small m n M maps s vs (Mul a b) h = mul-size (gf m) (operand (polynomials m n) vs a)
     (operand (polynomials m n) vs b)
-given-small m n M maps s vs (App f a) =
+given-small m n M maps s vs (App f a) h =
     map-size (gf m) (gf-laws M) n (mapAt maps f .constant) (coefficientsOf m (mapAt maps f .columns))
     (operand (polynomials m n) vs a)
-given-small m n M maps s vs (Rand v) = drawn-small m n s v (decLt v (s .drawn))
+given-small m n M maps s vs (Rand v) h = drawn-small m n s v h
 
 -- no statement is left
 pub over-none : (most m n : ℕ) (maps : List AffineMap) (xs vs : List Poly) (top : ℕ) (l : List Statement) (to : ℕ)

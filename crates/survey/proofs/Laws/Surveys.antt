@@ -25,7 +25,7 @@ use Rattle.values.specs.Raw.{mostStanding}
 use Rattle.survey.specs.Walk.{overIn, topIn, part, lineIf}
 use Rattle.survey.specs.Survey.{modulus, termBytes, originScope, maskedScope, Ready, Begun, OriginWalked}
 use Rattle.survey.specs.Survey.{MaskedWalked, Surveyed}
-use Rattle.values.proofs.Laws.Tables.{tabulate-length}
+use Rattle.verdict.proofs.Laws.Lists.{length-tabulate}
 use Rattle.values.proofs.Laws.Sources.{beginning-length}
 use Rattle.survey.proofs.Laws.Counting.{orElse}
 use Rattle.survey.proofs.Laws.Ends.{reach-start, walk-values, walk-top}
@@ -200,7 +200,7 @@ module _ {r : code.Routine} (Q : Ready r) where
         origin-kept f =
             let first = stored (termBytes r) left₁ (q .shelf) in
             let b = beginning n (originScope r) in
-            let c : length first ≡ r .origin = tabulate-length (q .shelf .count)
+            let c : length first ≡ r .origin = length-tabulate (q .shelf .count)
             (valueOf (termBytes r) left₁ (q .shelf)) ∙ origin-begun .count in
             ap (λ (k : ℕ). take (k + r .origin) (b ++ stored (termBytes r) left₂ (p .shelf)))
             (sym (beginning-length n (originScope r) [] []))

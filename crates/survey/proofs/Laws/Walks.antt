@@ -20,11 +20,11 @@ use Rattle.values.specs.declared.source.Scope.{Scope}
 use Rattle.values.specs.declared.found.Found.{Found}
 use Rattle.values.specs.Shelf.{stored, valueOf, shelved, Laid}
 use Rattle.values.specs.Source.{beginning, variablesOf, visible, reach, Narrow}
-use Rattle.values.specs.Raw.{mostStanding, rawIn, Mapped}
+use Rattle.values.specs.Raw.{mostStanding, rawIn, Inside}
 use Rattle.values.specs.Found.{foundValue, foundSize, FoundFor, RawAsked}
 use Rattle.values.specs.Value.{FormAsked}
 use Rattle.survey.specs.Walk.{overIn, topIn, blank, part, WalkAsked, Holds, Walked}
-use Rattle.values.proofs.Laws.Tables.{tabulate-length}
+use Rattle.verdict.proofs.Laws.Lists.{length-tabulate}
 use Rattle.values.proofs.Laws.Shelves.{shelved-sound, stored-more}
 use Rattle.survey.proofs.Laws.Steps.{over-here, over-next, over-none, given-small}
 use Rattle.verdict.proofs.Laws.Parts.{part-first}
@@ -35,7 +35,7 @@ module _ (w : ℕ) (s : Scope) (b b′ : List ℕ) (d e : Shelf) (p : Poly) (bas
     (h : stored w b′ e ≡ stored w b d ++ p ∷ []) where
   stored-count : length (stored w b d) ≡ d .count
   unfolding stored
-  stored-count = tabulate-length (d .count) (valueOf w b d)
+  stored-count = length-tabulate (d .count) (valueOf w b d)
 
   reach-more : reach w b′ e s ≡ reach w b d s ++ p ∷ []
   unfolding visible
@@ -90,8 +90,8 @@ module _ {m : ℕ} {lists : List (List ℕ)} {constants : List ℕ} {maps : List
     here = part-first statements i to blank l (omega (arith, Q .inside))
 
     -- its operands can be found
-    pub find-asked : Narrow s d × Mapped op
-    find-asked = (narrow, Q .mapped i l)
+    pub find-asked : Narrow s d × Inside (s .drawn) op
+    find-asked = (narrow, Q .reads i (H .begun) l)
 
     -- its raw size can be counted
     pub raw-asked : {f : Found} → FoundFor s d op f → RawAsked f
@@ -162,7 +162,7 @@ module _ {m : ℕ} {lists : List (List ℕ)} {constants : List ℕ} {maps : List
               value-length,
               raw-fits,
               same,
-              given-small m (w - 1) (Q .work .modulus) maps s (reach w left d s) op,
+              given-small m (w - 1) (Q .work .modulus) maps s (reach w left d s) op (Q .reads i (H .begun) l),
             )
 
         -- the directory has room for it

@@ -13,8 +13,7 @@ use Rattle.rules.specs.State.{State}
 use Rattle.rules.specs.Order.{atEnd}
 use Rattle.rules.specs.Read.{Reading, refused, accepted, Outcome, stop, next, takeLine, takeLast, follow}
 use Rattle.rules.specs.Read.{takeLines, routine}
-use Rattle.tokens.proofs.Laws.Pieces.{pieces-whole, some-piece}
-use Rattle.reader.proofs.Laws.Lines.{piece-cut}
+use Rattle.tokens.proofs.Laws.Pieces.{piece-cut, piece-last, some-piece}
 
 -- one line, ended, with what it leads to, before the lines ps
 stops : (st : State) (n e : ℕ) (l : List ℕ) (ps : List (List ℕ)) → 0 < length ps → takeLine st (n + 1) l ≡ stop e
@@ -37,27 +36,24 @@ unended st n (b ∷ l) h = refl
 
 module _ (st : State) (n : ℕ) (s : List ℕ) (at end : ℕ) (e : end ≡ at + before lineFeed (drop at s)) {x : Reading}
     (i : x ≡ takeLines st n (pieces lineFeed (drop at s))) where
-  cut-line : end < length s → pieces lineFeed (drop at s) ≡ take (end - at) (drop at s) ∷ pieces lineFeed
-      (drop (end + 1) s)
-  cut-line h = piece-cut lineFeed s at end e h
-
   -- the line is refused
   pub line-stops : (r : ℕ) → end < length s → takeLine st (n + 1) (take (end - at) (drop at s)) ≡ stop r
       → refused r (n + 1) ≡ x
-  line-stops r h q = sym (i ∙ ap (takeLines st n) (cut-line h)
+  line-stops r h q =
+      sym (i ∙ ap (takeLines st n) (piece-cut lineFeed s at end e h)
       ∙ stops st n r _ _ (some-piece lineFeed (drop (end + 1) s)) q)
 
   -- the line is taken, and the walk goes on behind it
   pub line-goes : (t : State) → end < length s → takeLine st (n + 1) (take (end - at) (drop at s)) ≡ next t
       → x ≡ takeLines t (n + 1) (pieces lineFeed (drop (end + 1) s))
-  line-goes t h q = i ∙ ap (takeLines st n) (cut-line h) ∙ goes st t n _ _ (some-piece lineFeed (drop (end + 1) s)) q
+  line-goes t h q =
+      i ∙ ap (takeLines st n) (piece-cut lineFeed s at end e h)
+      ∙ goes st t n _ _ (some-piece lineFeed (drop (end + 1) s)) q
 
   -- no line feed is left
   last : at ≤ length s → length s ≤ end → x ≡ takeLast st n (drop at s)
   unfolding takeLines
-  last k h =
-      let past : length (drop at s) ≤ before lineFeed (drop at s) = omega (arith, length-drop at s) in
-      i ∙ ap (takeLines st n) (pieces-whole lineFeed (drop at s) past)
+  last k h = i ∙ ap (takeLines st n) (piece-last lineFeed s at end e h k)
 
   -- the text ends behind a line feed, or is empty
   pub text-ends : at ≤ length s → length s ≤ at

@@ -6,25 +6,31 @@ use mathlib.Core.List.{List}
 use lib.ListN.{length, set, length-set}
 use Rattle.rules.specs.declared.types.Statement.{Statement}
 use Rattle.rules.specs.declared.types.AffineMap.{AffineMap}
-use Rattle.text.specs.declared.known.Known.{Known}
-use Rattle.text.specs.declared.step.Put.{Put}
-use Rattle.text.specs.declared.step.Put.the-variants.{Nothing, Map, Input, Stated, Let}
-use Rattle.text.specs.declared.step.Step.{Step}
+use Rattle.lines.specs.declared.known.Known.{Known}
+use Rattle.lines.specs.declared.step.Put.{Put}
+use Rattle.lines.specs.declared.step.Put.the-variants.{Nothing, Map, Input, Stated, Let}
+use Rattle.lines.specs.declared.step.Step.{Step}
 use Rattle.text.specs.declared.routine.Routine.{Routine}
 use Rattle.rules.specs.State.{start}
-use Rattle.lookup.specs.Names.{listed, namesIn}
+use Rattle.grammar.specs.declared.line.NameRef.{NameRef}
+use Rattle.lookup.specs.Names.{listed, namesIn, put}
 use Rattle.text.specs.Routine.{nothing}
 use Rattle.rules.specs.Limits.{mostStatements, mostNumbers}
-use Rattle.text.specs.Known.{Arrays, arrays, Kept, kept, Sound, Sized}
-use Rattle.text.specs.Added.{Fits}
-use Rattle.text.specs.Stored.{LetsHeld}
-use Rattle.text.specs.Stored.{mapsAfter, tableAfter, arraysAfter, letStatements, after}
-use Rattle.text.specs.Known.{stateIn}
-use Rattle.text.specs.Added.{blank}
-use Rattle.text.specs.Lets.{setAll}
-use Rattle.text.specs.Given.{givenCount, givenAt, givenFrom, mostCodes}
-use Rattle.text.proofs.Laws.Lets.{all-length}
-use Rattle.text.proofs.Laws.Kept.{table-length}
+use Rattle.lines.specs.Known.{Arrays, arrays, Kept, kept, Sound, Sized}
+use Rattle.lines.specs.Added.{Fits}
+use Rattle.lines.specs.Stored.{LetsHeld}
+use Rattle.lines.specs.Stored.{mapsAfter, tableAfter, arraysAfter, letStatements, after}
+use Rattle.lines.specs.Known.{stateIn}
+use Rattle.lines.specs.Added.{blank}
+use Rattle.lines.specs.Lets.{setAll, putNameless, putLet}
+use Rattle.lines.specs.Given.{givenCount, givenAt, givenFrom, mostCodes}
+use Rattle.lines.proofs.Laws.Lets.{all-length}
+use Rattle.lines.proofs.Laws.Kept.{table-length}
+
+-- one value is stored as its name alone
+pub let-one : (t : List ℕ) (at : ℕ) (x : NameRef) → putLet t at x 1 ≡ put t at x
+unfolding putNameless
+let-one t at x = let here : at + 0 ≡ at = omega arith in ap (λ (n : ℕ). put t n x) here
 
 -- ---- the statements that a record gives, stored one at a time
 
@@ -80,7 +86,7 @@ pub given-room : (k : Known) → Sound k → (p : Put) → Fits k p → k .origi
 given-room k K Nothing f = omega (arith, K .statements)
 given-room k K (Map x) f = omega (arith, K .statements)
 given-room k K (Input x) f = omega (arith, K .statements)
-given-room k K (Stated x st) f = omega arith
+given-room k K (Stated x st) f = f .1
 given-room k K (Let x l) f = f .1
 
 -- the arrays behind the stores are those that the record leads to

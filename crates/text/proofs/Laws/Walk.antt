@@ -11,7 +11,7 @@ use Rattle.grammar.specs.declared.line.Line.{Line}
 use Rattle.reader.specs.declared.cursor.Cursor.{Cursor}
 use Rattle.reader.specs.declared.cursor.Ahead.{Ahead}
 use Rattle.reader.specs.declared.cursor.Ahead.the-variants as Ahead
-use Rattle.text.specs.declared.step.Step.{Step}
+use Rattle.lines.specs.declared.step.Step.{Step}
 use Rattle.tokens.specs.Ascii.{lineFeed, all, allowed}
 use Rattle.tokens.specs.Split.{pieces}
 use Rattle.rules.specs.Order.{atEnd}
@@ -19,9 +19,9 @@ use Rattle.rules.specs.State.{State}
 use Rattle.reader.specs.Cursor.{lineEnd, lookAt}
 use Rattle.reader.proofs.Laws.Ahead.{look-line, look-unended, look-end, end-at}
 use Rattle.rules.specs.Read.{Reading, refused, accepted, stop, unless, takeLine, takeLines, routine}
-use Rattle.text.specs.Known.{Kept, stateIn}
-use Rattle.text.specs.Stored.{after}
-use Rattle.text.specs.Taken.{outcomeIn}
+use Rattle.lines.specs.Known.{Kept, stateIn}
+use Rattle.lines.specs.Stored.{after}
+use Rattle.lines.specs.Taken.{outcomeIn}
 use Rattle.text.proofs.Laws.Lines.{line-stops, line-goes, text-ends, line-unended}
 
 -- ---- the walk

@@ -138,12 +138,13 @@ module _ (last s : State) (os ms : List Statement) (eo : opsOf os ≡ opsOf (s .
             (sym (ap (λ (l : List Name). unknownForm l (s .mapNames) f) (block-names b s refl)) ∙ p .known),
       )
 
-  -- a record that adds no name and no statement, and is stopped by nothing that goes by them
+  -- a record that adds no statement, and is stopped in both or in neither
   same-alike : (w : Word) (r : Record) (t q : State) → Passed s w r → repeats other r ≡ repeats s r
       → readsUnknown other r ≡ readsUnknown s r → exceeds other r ≡ exceeds s r → miscounts other r ≡ miscounts s r
-      → Related last t q → Passed other w r × Related last t q
+      → q ≡ renamed last t os ms → opsOf os ≡ opsOf (t .origin .statements) → opsOf ms ≡ opsOf (t .masked .statements)
+      → Passed other w r × Related last t q
   unfolding renamed resting
-  same-alike w r t q p a b c d R = (
+  same-alike w r t q p a b c d e origin masked = (
     record {
       shallow = p .shallow;
       stands = p .stands;
@@ -152,7 +153,7 @@ module _ (last s : State) (os ms : List Statement) (eo : opsOf os ≡ opsOf (s .
       within = c ∙ p .within;
       counted = d ∙ p .counted;
     },
-    R,
+    record { os = os; ms = ms; is = e; origin = origin; masked = masked },
   )
 
   -- THEOREM: a record other than a `let` is taken alike
@@ -162,49 +163,34 @@ module _ (last s : State) (os ms : List Statement) (eo : opsOf os ≡ opsOf (s .
   unfolding atStage added withShares withMap withInput withResult withOutputs renamed resting repeats readsUnknown
       exceeds miscounts namesOf
   leads-alike n m {w} {r} (made-shares h) q p D =
-      same-alike w r _ _ p refl refl refl refl (record { os = os; ms = ms; is = refl; origin = eo; masked = em })
+      same-alike w r _ _ p refl refl refl refl refl eo em
   leads-alike n m {w} {r} (made-map h) q p D =
-      same-alike w r _ _ p refl refl refl refl (record { os = os; ms = ms; is = refl; origin = eo; masked = em })
+      same-alike w r _ _ p refl refl refl refl refl eo em
   leads-alike n m {w} {r} (made-input {n = x} h l) q p D =
       let ns : List Name = s .origin .names in
       let k = leadsTo s n w r .stage in
       let parts : List Name = shareNames x 0 (s .shares) in
       let off = off-used (last .origin .names) x h (subst (In x) (D false .1)
       (in-left x (ns ++ x ∷ []) (D false .0) (in-right x ns (x ∷ []) (inl refl)))) in
-      same-alike w r _ _ p (given-filled (freeOf last false) x off 0 ns) refl refl refl (record {
-        os = os;
-        ms = ms;
-        is = ap₂ {C = State} (λ (a b : List Name). resting (atStage k (withInput x parts s)) a os b ms)
-            (filled-more (freeOf last false) ns (x ∷ []) (one-named x h))
-            (filled-more (freeOf last true) (s .masked .names) parts (shares-named x h 0 (s .shares)));
-        origin = eo;
-        masked = em;
-      })
+      same-alike w r _ _ p (given-filled (freeOf last false) x off 0 ns) refl refl refl
+      (ap₂ {C = State} (λ (a b : List Name). resting (atStage k (withInput x parts s)) a os b ms)
+      (filled-more (freeOf last false) ns (x ∷ []) (one-named x h))
+      (filled-more (freeOf last true) (s .masked .names) parts (shares-named x h 0 (s .shares)))) eo em
   leads-alike n m {w} {r} (made-origin h) q p D =
-      same-alike w r _ _ p refl refl refl refl (record { os = os; ms = ms; is = refl; origin = eo; masked = em })
+      same-alike w r _ _ p refl refl refl refl refl eo em
   leads-alike n m {w} (made-assign {n = x} {f = f} h F l) q p D = assign-alike n m _ w x f h F p D
   leads-alike n m (made-let h F) q p D = absurd q
   leads-alike n m {w} {r} (made-result {n = x} h l) q p D =
       let k = leadsTo s n w r .stage in
       let known = missing-filled (freeOf last false) (s .origin .names) (off-here false) x h (p .known) in
-      same-alike w r _ _ p refl (known ∙ sym (p .known)) refl refl (record {
-        os = os;
-        ms = ms;
-        is = ap (λ (i : ℕ). renamed last (atStage k (withResult i s)) os ms)
-            (place-read (freeOf last false) (s .origin .names) (off-here false) x h (p .known));
-        origin = eo;
-        masked = em;
-      })
+      same-alike w r _ _ p refl (known ∙ sym (p .known)) refl refl
+      (ap (λ (i : ℕ). renamed last (atStage k (withResult i s)) os ms)
+      (place-read (freeOf last false) (s .origin .names) (off-here false) x h (p .known))) eo em
   leads-alike n m {w} {r} (made-masked h) q p D =
-      same-alike w r _ _ p refl refl refl refl (record { os = os; ms = ms; is = refl; origin = eo; masked = em })
+      same-alike w r _ _ p refl refl refl refl refl eo em
   leads-alike n m {w} {r} (made-output {ns = xs} h l) q p D =
       let k = leadsTo s n w r .stage in
       let known = names-known (freeOf last true) (s .masked .names) (off-here true) xs h (p .known) in
-      same-alike w r _ _ p refl (known ∙ sym (p .known)) refl refl (record {
-        os = os;
-        ms = ms;
-        is = ap (λ (is : List ℕ). renamed last (atStage k (withOutputs is s)) os ms)
-            (names-read (freeOf last true) (s .masked .names) (off-here true) xs h (p .known));
-        origin = eo;
-        masked = em;
-      })
+      same-alike w r _ _ p refl (known ∙ sym (p .known)) refl refl
+      (ap (λ (is : List ℕ). renamed last (atStage k (withOutputs is s)) os ms)
+      (names-read (freeOf last true) (s .masked .names) (off-here true) xs h (p .known))) eo em

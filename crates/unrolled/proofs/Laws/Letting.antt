@@ -9,14 +9,15 @@ use mathlib.Core.Option.{Option, some}
 use lib.ListN.{length, take, getD, length-append, length-map}
 use lib.Seq.{take-suc, take-length}
 use Rattle.tokens.specs.Byte.{Each}
-use Rattle.tokens.specs.Token.{Name, Term}
+use Rattle.tokens.specs.Token.{Name}
+use Rattle.grammar.specs.declared.record.Binary.{Binary}
+use Rattle.grammar.specs.declared.record.Binary.the-variants as Binary
 use Rattle.grammar.specs.Formula.{Formula, operand, operations}
 use Rattle.grammar.specs.Formula as formula
 use Rattle.grammar.specs.Record.{Form, set, xor, mul, app}
 use Rattle.grammar.specs.Written.{writtenLine}
 use Rattle.grammar.proofs.Laws.Written.{SpeltForm, wordFor}
 use Rattle.grammar.proofs.Laws.Spelt.{Spelt}
-use Rattle.rules.specs.declared.types.Operand.{Operand}
 use Rattle.rules.specs.declared.types.Op.{Op}
 use Rattle.rules.specs.declared.types.Op.the-variants as Op
 use Rattle.rules.specs.declared.types.Statement.{Statement}
@@ -33,7 +34,8 @@ use Rattle.rules.proofs.Laws.Letting.{compiled-length, each-append}
 use Rattle.unrolled.proofs.Laws.Load.{Plain}
 use Rattle.unrolled.proofs.Laws.Blocks.{grown, grown-none, opsOf, statementAt}
 use Rattle.unrolled.proofs.Laws.Written.{written-plain, written-taken, written-op}
-use Rattle.unrolled.proofs.Laws.Operands.{Ready, upTo, term-is, Twofold, xor-twofold, mul-twofold}
+use Rattle.unrolled.proofs.Laws.Operands.{Ready, upTo, term-is, twoForm, twoOp, two-spelt, two-draws}
+use Rattle.unrolled.proofs.Laws.Operands.{two-stands, two-known, two-computes}
 
 module _ (b : Bool) (q : State) (ms ns : List Name) (R : Ready b q ms ns) where
   -- the lines ls are taken behind `at` statements of the `let`, and add c statements, which compute ops
@@ -99,8 +101,7 @@ module _ (b : Bool) (q : State) (ms ns : List Name) (R : Ready b q ms ns) where
       }
 
   -- two parts, and a line that reads both
-  two-goes : (mk : Term → Term → Form) (op : Operand → Operand → Op) → Twofold (q .stage) mk op
-      → (a c : Formula) (at n : ℕ) (sts : List Statement) → length sts ≡ at
+  two-goes : (g : Binary) (a c : Formula) (at n : ℕ) (sts : List Statement) → length sts ≡ at
       → at + (operations a + operations c + 1) ≤ length ns → Spelt a → Spelt c
       → (let maps = q .mapNames in unknownFormula ms maps a ≡ false → unknownFormula ms maps c ≡ false
       → Goes at (operations a) n sts (linesFor ns at a) (compiled ms maps (length ms + at) a)
@@ -109,10 +110,10 @@ module _ (b : Bool) (q : State) (ms ns : List Name) (R : Ready b q ms ns) where
       → Goes at (operations a + operations c + 1) n sts
       (linesFor ns at a ++ linesFor ns (at + operations a) c
       ++ writtenLine (getD ns (at + (operations a + operations c)) unnamed)
-      (mk (termFor ns at a) (termFor ns (at + operations a) c)) ∷ [])
+      (twoForm g (termFor ns at a) (termFor ns (at + operations a) c)) ∷ [])
       (compiled ms maps (length ms + at) a ++ compiled ms maps (length ms + at + operations a) c
-      ++ op (valueOf ms (length ms + at) a) (valueOf ms (length ms + at + operations a) c) ∷ []))
-  two-goes mk op T a c at n sts h l S P d e A C =
+      ++ twoOp g (valueOf ms (length ms + at) a) (valueOf ms (length ms + at + operations a) c) ∷ []))
+  two-goes g a c at n sts h l S P d e A C =
       let maps = q .mapNames in
       let i = at + (operations a + operations c) in
       let far : length ms + (at + operations a) ≡ length ms + at + operations a = omega arith in
@@ -122,18 +123,20 @@ module _ (b : Bool) (q : State) (ms ns : List Name) (R : Ready b q ms ns) where
       let lv : length v ≡ operations c = compiled-length ms maps (length ms + at + operations a) c in
       let x = term-is b q ms ns R a at i (omega arith) (omega arith) S maps d in
       let y = term-is b q ms ns R c (at + operations a) i (omega arith) (omega arith) P maps e in
-      let f = mk (termFor ns at a) (termFor ns (at + operations a) c) in
-      let o = op (valueOf ms (length ms + at) a) (valueOf ms (length ms + at + operations a) c) in
+      let k = termFor ns at a in
+      let j = termFor ns (at + operations a) c in
+      let f = twoForm g k j in
+      let o = twoOp g (valueOf ms (length ms + at) a) (valueOf ms (length ms + at + operations a) c) in
       join-goes at (operations a + operations c) 1 n sts (linesFor ns at a ++ linesFor ns (at + operations a) c)
       (writtenLine (getD ns i unnamed) f ∷ []) (u ++ v) (o ∷ []) h (omega (arith, length-append u v))
       (join-goes at (operations a) (operations c) n sts (linesFor ns at a) (linesFor ns (at + operations a) c) u v h lu
       A
-      (λ m ss k. subst (λ (p : ℕ). Goes (at + operations a) (operations c) m ss (linesFor ns (at + operations a) c)
-      (compiled ms maps p c)) far (C m ss k)))
-      (λ m ss r. one-goes i m ss f o (omega arith) r (T .formed _ _ (x .termed) (y .termed)) (T .draws _ _)
-      (T .stands _ _) (T .known _ maps _ _ (x .known) (y .known))
-      (T .computes (upTo b q ms ns R i) maps (q .variables) (termFor ns at a) (termFor ns (at + operations a) c)
-      ∙ ap₂ {C = Op} op (x .value) (y .value ∙ ap (λ (p : ℕ). valueOf ms p c) far)))
+      (λ m ss r. subst (λ (p : ℕ). Goes (at + operations a) (operations c) m ss (linesFor ns (at + operations a) c)
+      (compiled ms maps p c)) far (C m ss r)))
+      (λ m ss r. one-goes i m ss f o (omega arith) r (two-spelt k j g (x .termed) (y .termed)) (two-draws k j g)
+      (two-stands k j g (q .stage) (R .stands)) (two-known k j g (upTo b q ms ns R i) maps (x .known) (y .known))
+      (two-computes k j g (upTo b q ms ns R i) maps (q .variables)
+      ∙ ap₂ {C = Op} (twoOp g) (x .value) (y .value ∙ ap (λ (p : ℕ). valueOf ms p c) far)))
 
   -- THEOREM: the lines of a formula
   formula-goes : (g : Formula) (at n : ℕ) (sts : List Statement) → length sts ≡ at → at + operations g ≤ length ns
@@ -143,12 +146,12 @@ module _ (b : Bool) (q : State) (ms ns : List Name) (R : Ready b q ms ns) where
   formula-goes (operand a) at n sts h l S e = none-goes at n sts
   formula-goes (formula.xor a c) at n sts h l S e =
       let k = or-false (unknownFormula ms (q .mapNames) a) (unknownFormula ms (q .mapNames) c) e in
-      two-goes xor Op.Xor (xor-twofold (q .stage) (R .stands)) a c at n sts h l (S .0) (S .1) (k .0) (k .1)
+      two-goes Binary.Xor a c at n sts h l (S .0) (S .1) (k .0) (k .1)
       (formula-goes a at n sts h (omega arith) (S .0) (k .0))
       (λ m ss r. formula-goes c (at + operations a) m ss r (omega arith) (S .1) (k .1))
   formula-goes (formula.mul a c) at n sts h l S e =
       let k = or-false (unknownFormula ms (q .mapNames) a) (unknownFormula ms (q .mapNames) c) e in
-      two-goes mul Op.Mul (mul-twofold (q .stage) (R .stands)) a c at n sts h l (S .0) (S .1) (k .0) (k .1)
+      two-goes Binary.Mul a c at n sts h l (S .0) (S .1) (k .0) (k .1)
       (formula-goes a at n sts h (omega arith) (S .0) (k .0))
       (λ m ss r. formula-goes c (at + operations a) m ss r (omega arith) (S .1) (k .1))
   formula-goes (formula.app f a) at n sts h l S e =

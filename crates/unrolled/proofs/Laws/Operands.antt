@@ -13,6 +13,8 @@ use Rattle.tokens.specs.declared.word.Word.the-variants as Word
 use Rattle.tokens.specs.Token.{Name, Term, name, byte}
 use Rattle.tokens.proofs.Laws.Written.{Named}
 use Rattle.tokens.proofs.Laws.Terms.{Termed, named-termed}
+use Rattle.grammar.specs.declared.record.Binary.{Binary}
+use Rattle.grammar.specs.declared.record.Binary.the-variants as Binary
 use Rattle.grammar.specs.Formula.{Formula, operand, operations}
 use Rattle.grammar.specs.Formula as formula
 use Rattle.grammar.specs.Record.{Form, xor, mul}
@@ -115,34 +117,44 @@ module _ (b : Bool) (q : State) (ms ns : List Name) (R : Ready b q ms ns) where
 
 -- ---- operations on two values
 
--- what is known of the statements of an operation on two values
-pub record Twofold (stage : ℕ) (mk : Term → Term → Form) (op : Operand → Operand → Op) : Type 0 where
-  pub formed : (x y : Term) → Termed x → Termed y → SpeltForm (mk x y)
-  pub draws : (x y : Term) → drawn (mk x y) ≡ 0
-  pub stands : (x y : Term) → mayStand (wordFor (mk x y)) stage ≡ true
-  pub known : (l maps : List Name) (x y : Term) → unknownTerm l x ≡ false → unknownTerm l y ≡ false
-      → unknownForm l maps (mk x y) ≡ false
-  pub computes : (l maps : List Name) (v : ℕ) (x y : Term)
-      → opIn l maps v (mk x y) ≡ op (operandIn l x) (operandIn l y)
+-- the statement that is an operation on two operands
+abbrev pub twoForm : Binary → Term → Term → Form
+twoForm Binary.Xor = xor
+twoForm Binary.Mul = mul
 
--- the sum
-pub xor-twofold : (stage : ℕ) → mayStand Word.Let stage ≡ true → Twofold stage xor Op.Xor
-unfolding drawn unknownForm opIn
-xor-twofold stage h = record {
-  formed = λ x y a c. (a, c);
-  draws = λ x y. refl;
-  stands = λ x y. h;
-  known = λ l maps x y a c. rw (a, c);
-  computes = λ l maps v x y. refl;
-}
+-- what it computes
+abbrev pub twoOp : Binary → Operand → Operand → Op
+twoOp Binary.Xor = Op.Xor
+twoOp Binary.Mul = Op.Mul
 
--- the product
-pub mul-twofold : (stage : ℕ) → mayStand Word.Let stage ≡ true → Twofold stage mul Op.Mul
-unfolding drawn unknownForm opIn
-mul-twofold stage h = record {
-  formed = λ x y a c. (a, c);
-  draws = λ x y. refl;
-  stands = λ x y. h;
-  known = λ l maps x y a c. rw (a, c);
-  computes = λ l maps v x y. refl;
-}
+module _ (x y : Term) where
+  -- its operands are spelt
+  pub two-spelt : (g : Binary) → Termed x → Termed y → SpeltForm (twoForm g x y)
+  two-spelt Binary.Xor h k = (h, k)
+  two-spelt Binary.Mul h k = (h, k)
+
+  -- it draws no variable
+  pub two-draws : (g : Binary) → drawn (twoForm g x y) ≡ 0
+  unfolding drawn
+  two-draws Binary.Xor = refl
+  two-draws Binary.Mul = refl
+
+  -- it stands where a `let` does
+  pub two-stands : (g : Binary) (stage : ℕ) → mayStand Word.Let stage ≡ true
+      → mayStand (wordFor (twoForm g x y)) stage ≡ true
+  two-stands Binary.Xor stage h = h
+  two-stands Binary.Mul stage h = h
+
+  -- it reads what is given where its operands are
+  pub two-known : (g : Binary) (l maps : List Name) → unknownTerm l x ≡ false → unknownTerm l y ≡ false
+      → unknownForm l maps (twoForm g x y) ≡ false
+  unfolding unknownForm
+  two-known Binary.Xor l maps h k = rw (h, k)
+  two-known Binary.Mul l maps h k = rw (h, k)
+
+  -- its operation is that on the operands by their places
+  pub two-computes : (g : Binary) (l maps : List Name) (v : ℕ)
+      → opIn l maps v (twoForm g x y) ≡ twoOp g (operandIn l x) (operandIn l y)
+  unfolding opIn
+  two-computes Binary.Xor l maps v = refl
+  two-computes Binary.Mul l maps v = refl

@@ -2,6 +2,7 @@
 -- Assumes nothing.
 use mathlib.Core.Path.{_≡_, refl, sym, ap, ap₂, _∙_, subst}
 use Prim.Native.Nat.{ℕ, _+_, _*_, _-_, _<_}
+use native.Mathlib.Omega.{arith}
 use mathlib.Core.List.{List}
 use lib.ListN.{length}
 use Rattle.field.specs.Laws.{gf}
@@ -16,12 +17,13 @@ use Rattle.verdict.specs.Instances.{polynomials}
 use Rattle.verdict.specs.Count.{applySize}
 use Rattle.values.specs.declared.shelf.Shelf.{Shelf}
 use Rattle.values.specs.declared.source.Source.{Source}
+use Rattle.values.specs.declared.source.Source.the-variants.{Variables}
 use Rattle.values.specs.declared.source.Scope.{Scope}
-use Rattle.values.specs.declared.found.Found.the-variants.{Copy, Sum, Product, Image, Draw}
-use Rattle.values.specs.Source.{sourceOf, sourceSize, reach, Narrow, Located, Drawn}
-use Rattle.values.specs.Raw.{rawIn, Mapped}
+use Rattle.values.specs.declared.found.Found.the-variants.{Copy, Sum, Product, Image}
+use Rattle.values.specs.Source.{sourceOf, sourceSize, reach, Narrow, Located}
+use Rattle.values.specs.Raw.{rawIn, Inside}
 use Rattle.values.specs.Found.{foundValue, foundSize, FoundFor}
-use Rattle.values.proofs.Laws.Sources.{source-length}
+use Rattle.values.proofs.Laws.Sources.{source-length, drawn-variable}
 use Rattle.values.proofs.Laws.Sizes.{located-small}
 
 -- the terms of an operand, counted
@@ -65,11 +67,11 @@ module _ {s : Scope} {d : Shelf} {x : Op} where
   }
 
   -- app
-  pub app-found : {f : ℕ} {a : Operand} {r : Source} → x ≡ App f a → Narrow s d × Mapped x → Located s d a r
+  pub app-found : {f : ℕ} {a : Operand} {r : Source} → x ≡ App f a → Narrow s d × Inside (s .drawn) x → Located s d a r
       → FoundFor s d x (Image f r)
   unfolding foundValue foundSize given rawIn polynomials applySize
   app-found {f} {a} {r} e (N, n) l =
-      let inside : f < 8 = subst Mapped e n in
+      let inside : f < 8 = subst (Inside (s .drawn)) e n in
       subst (λ (o : Op). FoundFor s d o (Image f r)) (sym e) record {
         means = λ m w lists constants b maps u.
             ap₂ (λ (c : ℕ) (ls : List ℕ). mapPoly (gf m) (w - 1) c ls (sourceOf w b r)) (u .constant f inside)
@@ -86,11 +88,13 @@ module _ {s : Scope} {d : Shelf} {x : Op} where
       }
 
   -- rand
-  pub rand-found : {v : ℕ} {r : Source} → x ≡ Rand v → Drawn s v r → FoundFor s d x (Draw r)
-  unfolding foundValue foundSize given rawIn
-  rand-found {v} {r} e l = subst (λ (o : Op). FoundFor s d o (Draw r)) (sym e) record {
-    means = λ m w lists constants b maps u. l .means m w b;
-    sized = λ m w lists constants b maps u. refl;
-    fits = λ w h g. (l .fits w (d .top) g, l .few);
-    small = λ h. tt;
-  }
+  pub rand-found : {v : ℕ} → x ≡ Rand v → Inside (s .drawn) x → FoundFor s d x (Copy (Variables v 1))
+  unfolding foundValue foundSize given rawIn sourceSize
+  rand-found {v} e n =
+      let inside : v < s .drawn = subst (Inside (s .drawn)) e n in
+      subst (λ (o : Op). FoundFor s d o (Copy (Variables v 1))) (sym e) record {
+        means = λ m w lists constants b maps u. drawn-variable s v inside m w b;
+        sized = λ m w lists constants b maps u. refl;
+        fits = λ w h g. omega arith;
+        small = λ h. tt;
+      }

@@ -1,4 +1,4 @@
--- Each answer of `place`, `locate` and `draw` is the operand's polynomial, and as many terms as it has.
+-- Each answer of `place` and `locate` is the operand's polynomial, and as many terms as it has.
 -- Assumes nothing.
 use mathlib.Core.Path.{_≡_, refl, sym, ap, _∙_}
 use Prim.Native.Nat.{ℕ, zero, suc, _+_, _*_, _-_, _≤_, _<_}
@@ -7,8 +7,7 @@ use native.Mathlib.Nat.{mul-le-mul-right, suc-mul}
 use mathlib.Core.List.{List, _++_}
 use lib.ListN.{length, getD, drop, List·getD-append}
 use lib.Seq.{getD-drop, getD-append-add}
-use Rattle.poly.specs.Poly.{Poly, units, constant, variable}
-use Rattle.poly.specs.Size.{oneIf}
+use Rattle.poly.specs.Poly.{Poly, units, variable}
 use Rattle.buffer.proofs.Lent.Reads.{read-length}
 use Rattle.rules.specs.declared.types.Operand.the-variants.{Place, Byte}
 use Rattle.verdict.specs.Meaning.{operand, valueAt}
@@ -18,24 +17,18 @@ use Rattle.values.specs.declared.source.Source.{Source}
 use Rattle.values.specs.declared.source.Source.the-variants.{Constant, Variables, Stored}
 use Rattle.values.specs.declared.source.Scope.{Scope}
 use Rattle.values.specs.Shelf.{stored, valueOf, Sound}
-use Rattle.values.specs.Source.{sourceOf, sourceSize, beginning, variablesOf, visible, Located, Drawn}
-use Rattle.values.proofs.Laws.Tables.{tabulate-length, tabulate-at, tabulate-past}
+use Rattle.values.specs.Source.{sourceOf, sourceSize, beginning, variablesOf, visible, Located}
+use Rattle.verdict.proofs.Count.{constant-size, units-size}
+use Rattle.verdict.proofs.Laws.Lists.{length-tabulate}
+use Rattle.values.proofs.Laws.Tables.{tabulate-at, tabulate-past}
 
 -- ---- how many terms
-
-units-length : (n i k : ℕ) → length (units n i k) ≡ k
-units-length n i zero = refl
-units-length n i (suc k) = ap suc (units-length n (suc i) k)
-
-constant-length : (n c : ℕ) → length (constant n c) ≡ oneIf c
-constant-length n zero = refl
-constant-length n (suc c) = refl
 
 -- a source has as many terms as its size says
 pub source-length : (w : ℕ) (b : List ℕ) (s : Source) → length (sourceOf w b s) ≡ sourceSize s
 unfolding sourceOf sourceSize
-source-length w b (Constant c) = constant-length (w - 1) c
-source-length w b (Variables i k) = units-length (w - 1) i k
+source-length w b (Constant c) = constant-size (w - 1) c
+source-length w b (Variables i k) = units-size (w - 1) i k
 source-length w b (Stored at k) = read-length (w - 1) b (at * w) k
 
 -- a constant that is not zero has one
@@ -50,7 +43,7 @@ module _ (n : ℕ) (s : Scope) (vs : List Poly) (d : Poly) where
   -- so many values as the scope says
   pub beginning-length : length (beginning n s) ≡ s .begins
   unfolding beginning
-  beginning-length = tabulate-length (s .begins) (λ i. units n (i * s .width) (s .width))
+  beginning-length = length-tabulate (s .begins) (λ i. units n (i * s .width) (s .width))
 
   -- one that the block begins with
   visible-first : (i : ℕ) → i < s .begins → getD (visible n s vs) i d ≡ units n (i * s .width) (s .width)
@@ -111,20 +104,8 @@ variable-fits s i h = mul-le-mul-right (s .width) (omega arith)
 
 -- ---- a variable that is drawn
 
--- one of the variables
-pub drawn-variable : (s : Scope) (v : ℕ) → v < s .drawn → Drawn s v (Variables v 1)
-unfolding sourceOf sourceSize valueAt variablesOf
-drawn-variable s v h = record {
-  means = λ m w b. sym (tabulate-at (s .drawn) (variable (w - 1)) v _ h);
-  fits = λ w top l. omega arith;
-  few = omega arith;
-}
-
--- past the last it is 0
-pub drawn-nothing : (s : Scope) (v : ℕ) → s .drawn ≤ v → Drawn s v (Constant 0)
-unfolding sourceOf sourceSize valueAt variablesOf polynomials
-drawn-nothing s v h = record {
-  means = λ m w b. sym (tabulate-past (s .drawn) (variable (w - 1)) v _ h);
-  fits = λ w top l. tt;
-  few = omega arith;
-}
+-- it is found among the variables
+pub drawn-variable : (s : Scope) (v : ℕ) → v < s .drawn → (m w : ℕ) (b : List ℕ)
+    → sourceOf w b (Variables v 1) ≡ valueAt (polynomials m (w - 1)) (variablesOf (w - 1) s) v
+unfolding sourceOf valueAt variablesOf
+drawn-variable s v h m w b = sym (tabulate-at (s .drawn) (variable (w - 1)) v _ h)

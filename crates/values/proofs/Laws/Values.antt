@@ -12,7 +12,7 @@ use Rattle.poly.specs.Size.{oneIf, nonzeros}
 use Rattle.values.specs.declared.source.Source.{Source}
 use Rattle.values.specs.declared.source.Source.the-variants.{Constant, Variables, Stored}
 use Rattle.values.specs.declared.found.Found.{Found}
-use Rattle.values.specs.declared.found.Found.the-variants.{Copy, Sum, Product, Image, Draw}
+use Rattle.values.specs.declared.found.Found.the-variants.{Copy, Sum, Product, Image}
 use Rattle.values.specs.Shelf.{Laid}
 use Rattle.values.specs.Source.{sourceSize, Fits}
 use Rattle.values.specs.Load.{mostTermBytes, LayAsked, LoadAsked}
@@ -108,12 +108,6 @@ module _ {m : ℕ} {lists : List (List ℕ)} {constants : List ℕ} {left : List
           → LoadAsked left r right 0 w × LayAsked left top (sourceSize r) w
       unfolding foundSize
       copy-asked {r} e = (alone (at e) r (at e .fits), laying (at e) (sourceSize r) (omega arith))
-
-      -- room for a variable
-      pub draw-asked : {r : Source} → x ≡ Draw r
-          → LoadAsked left r right 0 w × LayAsked left top (sourceSize r) w
-      unfolding foundSize
-      draw-asked {r} e = (alone (at e) r (at e .fits .0), laying (at e) (sourceSize r) (at e .fits .1))
 
       -- room for both operands and their sum
       pub sum-asked : {r t : Source} → x ≡ Sum r t

@@ -14,7 +14,8 @@ use Rattle.verdict.specs.Lists.{lots, behind, poured}
 use Rattle.verdict.specs.Meaning.{Algebra, mapAt, valueAt, operand, given, values, joined, originValues}
 use Rattle.verdict.specs.Meaning.{maskedValues, resultIn, outputsIn, trace, joinedIn, differenceIn}
 use Rattle.rules.specs.Formed.{Each, FormedOperand, FormedOp, FormedStatement, FormedMap, Formed}
-use Rattle.verdict.proofs.Laws.Lists.{each-at, each-append, each-lots, each-behind, each-poured, each-map}
+use Rattle.verdict.proofs.Laws.Lists.{each-at, each-lots, each-behind, each-poured, each-map}
+use Rattle.rules.proofs.Laws.Letting.{each-append}
 use Rattle.verdict.proofs.Laws.Meaning.{formed-mapAt}
 
 -- what the operations keep, at bytes and maps that are well formed

@@ -14,7 +14,8 @@ use Rattle.verdict.specs.Equivalent.{original, masked, randoms, Equivale
 use Rattle.verdict.specs.Run.{runValues, resultAt, joinedAt}
 use Rattle.verdict.specs.Verdict.{Agrees}
 use Rattle.rules.specs.Formed.{Each, IsByte, Formed}
-use Rattle.verdict.proofs.Laws.Lists.{Square, lots-poured, behind-poured, each-append, each-poured, each-lots}
+use Rattle.verdict.proofs.Laws.Lists.{Square, parts-poured, each-poured, each-lots}
+use Rattle.rules.proofs.Laws.Letting.{each-append}
 use Rattle.verdict.proofs.Laws.Lists.{each-behind, each-map}
 use Rattle.verdict.proofs.Laws.Lists.{length-poured, square-lots, length-lots, length-behind}
 use Rattle.verdict.proofs.Laws.Closed.{joined-closed}
@@ -58,10 +59,10 @@ module _ (r : Routine) (F : Formed r) where
       let b : ByteList (r .variables) xs =
       bytes-of (r .variables) xs n (each-append IsByte (poured s) rs
       (each-poured IsByte s (encodings-each k m s ls)) (bytes-each (r .variables - m * k) rs lr)) in
-      ap (original r) (e ∙ ap (map (joined (bytesOf r))) (sym (lots-poured k m s rs q)))
+      let parts = parts-poured k m s rs q in
+      ap (original r) (e ∙ ap (map (joined (bytesOf r))) (sym (parts .0)))
       ∙ sym (result-original r xs) ∙ h xs b ∙ joined-masked r xs
-      ∙ ap₂ (λ (t : List (List ℕ)) (u : List ℕ). joined (bytesOf r) (masked r t u)) (lots-poured k m s rs q)
-      (behind-poured k m s rs q)
+      ∙ ap₂ (λ (t : List (List ℕ)) (u : List ℕ). joined (bytesOf r) (masked r t u)) (parts .0) (parts .1)
 
   -- THEOREM: where Definition 1 holds, run's two bytes agree everywhere
   pub equivalent-agrees : Equivalent r → Agrees r

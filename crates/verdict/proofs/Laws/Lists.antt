@@ -3,20 +3,16 @@
 use mathlib.Core.Path.{_≡_, refl, ap, ap₂, _∙_}
 use Prim.Native.Nat.{ℕ, zero, suc, _*_, _-_, _≤_, _<_}
 use native.Mathlib.Omega.{arith}
-use mathlib.Core.List.{List, [], _∷_, _++_, map, append-assoc}
+use mathlib.Core.List.{List, [], _∷_, _++_, map, map-append, append-assoc}
 use lib.ListN.{take, drop, length, getD, replicate, take-append-drop, length-append, length-take, length-drop}
 use lib.Seq.{take-at, drop-at}
 use Rattle.verdict.specs.Lists.{tabulate, lots, behind, poured}
 use Rattle.rules.specs.Formed.{Each}
+use Rattle.rules.proofs.Laws.Letting.{each-append}
 
 -- ---- a function applied to each element
 
 module _ {X Y : Type 0} (h : X → Y) where
-  -- map of two lists behind each other
-  pub map-append : (xs ys : List X) → map h (xs ++ ys) ≡ map h xs ++ map h ys
-  map-append [] ys = refl
-  map-append (x ∷ xs) ys = ap {B = List Y} (λ zs. h x ∷ zs) (map-append xs ys)
-
   map-take : (k : ℕ) (xs : List X) → map h (take k xs) ≡ take k (map h xs)
   map-take zero xs = refl
   map-take (suc k) [] = refl
@@ -41,7 +37,7 @@ module _ {X Y : Type 0} (h : X → Y) where
   -- map of lots poured out
   pub map-poured : (ss : List (List X)) → map h (poured ss) ≡ poured (map (map h) ss)
   map-poured [] = refl
-  map-poured (s ∷ ss) = map-append s (poured ss) ∙ ap {B = List Y} (λ zs. map h s ++ zs) (map-poured ss)
+  map-poured (s ∷ ss) = map-append h s (poured ss) ∙ ap {B = List Y} (λ zs. map h s ++ zs) (map-poured ss)
 
   -- map of a table
   pub map-tabulate : (n : ℕ) (f : ℕ → X) → map h (tabulate n f) ≡ tabulate n (λ i. h (f i))
@@ -66,25 +62,20 @@ module _ {X : Type 0} where
   Square k (suc m) [] = ⊥
   Square k (suc m) (s ∷ ss) = (length s ≡ k) × Square k m ss
 
-  -- lots poured out and parted again
-  pub lots-poured : (k m : ℕ) (ss : List (List X)) (rs : List X) → Square k m ss → lots k m (poured ss ++ rs) ≡ ss
-  lots-poured k zero [] rs q = refl
-  lots-poured k zero (s ∷ ss) rs q = absurd q
-  lots-poured k (suc m) [] rs q = absurd q
-  lots-poured k (suc m) (s ∷ ss) rs q =
-      ap (lots k (suc m)) (append-assoc s (poured ss) rs)
-      ∙ ap₂ {C = List (List X)} _∷_ (take-at s (poured ss ++ rs) k (q .0))
-      (ap (lots k m) (drop-at s (poured ss ++ rs) k (q .0)) ∙ lots-poured k m ss rs (q .1))
-
-  -- what stood behind them
-  pub behind-poured : (k m : ℕ) (ss : List (List X)) (rs : List X) → Square k m ss → behind k m (poured ss ++ rs) ≡ rs
-  behind-poured k zero [] rs q = refl
-  behind-poured k zero (s ∷ ss) rs q = absurd q
-  behind-poured k (suc m) [] rs q = absurd q
-  behind-poured k (suc m) (s ∷ ss) rs q =
-      ap (behind k (suc m)) (append-assoc s (poured ss) rs)
-      ∙ ap (behind k m) (drop-at s (poured ss ++ rs) k (q .0))
-      ∙ behind-poured k m ss rs (q .1)
+  -- lots poured out and parted again, and what stood behind them
+  pub parts-poured : (k m : ℕ) (ss : List (List X)) (rs : List X) → Square k m ss
+      → (lots k m (poured ss ++ rs) ≡ ss) × (behind k m (poured ss ++ rs) ≡ rs)
+  parts-poured k zero [] rs q = (refl, refl)
+  parts-poured k zero (s ∷ ss) rs q = absurd q
+  parts-poured k (suc m) [] rs q = absurd q
+  parts-poured k (suc m) (s ∷ ss) rs q =
+      let front : poured (s ∷ ss) ++ rs ≡ s ++ (poured ss ++ rs) = append-assoc s (poured ss) rs in
+      let back : drop k (s ++ (poured ss ++ rs)) ≡ poured ss ++ rs = drop-at s (poured ss ++ rs) k (q .0) in
+      let rest = parts-poured k m ss rs (q .1) in (
+        ap (lots k (suc m)) front
+            ∙ ap₂ {C = List (List X)} _∷_ (take-at s (poured ss ++ rs) k (q .0)) (ap (lots k m) back ∙ rest .0),
+        ap (behind k (suc m)) front ∙ ap (behind k m) back ∙ rest .1,
+      )
 
   -- ---- what each element has
 
@@ -99,11 +90,6 @@ module _ {X : Type 0} where
   pub each-replicate : (P : X → Type 0) (n : ℕ) (x : X) → P x → Each P (replicate n x)
   each-replicate P zero x h = tt
   each-replicate P (suc n) x h = (h, each-replicate P n x h)
-
-  -- each of two lists behind each other
-  pub each-append : (P : X → Type 0) (xs ys : List X) → Each P xs → Each P ys → Each P (xs ++ ys)
-  each-append P [] ys h k = k
-  each-append P (x ∷ xs) ys h k = (h .0, each-append P xs ys (h .1) k)
 
   each-take : (P : X → Type 0) (k : ℕ) (xs : List X) → Each P xs → Each P (take k xs)
   each-take P zero xs h = tt

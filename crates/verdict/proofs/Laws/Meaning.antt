@@ -4,7 +4,7 @@
 use mathlib.Core.Path.{_≡_, refl, sym, ap, ap₂, _∙_}
 use Prim.Native.Nat.{ℕ, _<_}
 use native.Mathlib.Omega.{arith}
-use mathlib.Core.List.{List, [], _∷_, _++_, map}
+use mathlib.Core.List.{List, [], _∷_, _++_, map, map-append}
 use lib.ListN.{getD, replicate, List·getD-map}
 use Rattle.rules.specs.declared.types.Operand.{Operand}
 use Rattle.rules.specs.declared.types.Operand.the-variants.{Place, Byte}
@@ -17,7 +17,7 @@ use Rattle.verdict.specs.Lists.{lots, behind, poured}
 use Rattle.verdict.specs.Meaning.{Algebra, mapAt, valueAt, operand, given, values, joined, originValues}
 use Rattle.verdict.specs.Meaning.{maskedValues, resultIn, outputsIn, trace, joinedIn, differenceIn}
 use Rattle.rules.specs.Formed.{Each, IsByte, FormedOperand, FormedOp, FormedStatement, FormedMap, Formed}
-use Rattle.verdict.proofs.Laws.Lists.{map-append, map-lots, map-behind, map-poured, each-at, each-replicate}
+use Rattle.verdict.proofs.Laws.Lists.{map-lots, map-behind, map-poured, each-at, each-replicate}
 
 -- what takes operations to operations, at bytes and maps that are well formed
 pub record Homomorphism {X Y : Type 0} (A : Algebra X) (B : Algebra Y) (h : X → Y) : Type 0 where

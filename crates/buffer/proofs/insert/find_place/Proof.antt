@@ -1,40 +1,48 @@
 -- `buffer::insert::find_place` meets its contract. The invariant: `Between`, halved in each turn. Assumes nothing.
-use mathlib.Core.Path.{sym, _∙_}
-use Prim.Native.Nat.{_≤_, _<_, _+_, _*_, _-_, _/_}
+use mathlib.Core.Path.{_≡_}
+use mathlib.Core.Logic.{_≢_}
+use Prim.Native.Nat.{_≤_, _+_, _*_, _-_, _/_}
 use native.Mathlib.Omega.{arith}
 use borrow.Author.Needs.{needs}
 use lib.ListN.{length}
-use Rattle.poly.specs.Canon.{Sorted}
-use Rattle.buffer.specs.Buffer.{readTerms}
-use Rattle.buffer.proofs.Lent.Strides.{half-row}
-use Rattle.buffer.proofs.Lent.Places.{same-lengths, Between, between-all, between-none, between-up, between-down}
+use Rattle.buffer.proofs.Lent.Places.{Between, between-all, between-none, middle-fits, middle-lengths}
+use Rattle.buffer.proofs.Lent.Places.{between-told}
 use Rattle.buffer.proofs.insert.find_place.Statement.{statement}
 use Rattle.buffer.proofs.insert.find_place.Tie as tie
 
 abbrev Inv-loop : tie.InvT-loop
-Inv-loop b m t w low₀ high₀ low high =
-    (0 < length t) × (m * length t ≤ length b) × Sorted (readTerms (length t - 1) b 0 m) × Between b m t low high
+Inv-loop b m t w low₀ high₀ low high = Between b m t low high
 
 abbrev μ-loop : tie.MeasureT-loop
 μ-loop b m t w low₀ high₀ low high = high - low
 
 -- the middle term stands in the buffer
 here : (c : tie.In-loop Inv-loop μ-loop) →
+    let l = c .before .loop in
     let a = c .before .before .before .before .args in
-    (c .before .loop .low + (c .before .loop .high - c .before .loop .low) / 2) * length (a .t .now) + length
-    (a .t .now)
-    ≤ length (a .b .now)
+    (l .low + (l .high - l .low) / 2) * length (a .t .now) + length (a .t .now) ≤ length (a .b .now)
 here c =
     let l = c .before .loop in
     let a = c .before .before .before .before .args in
-    half-row (l .low) (l .high) (a .k) (length (a .t .now)) (length (a .b .now)) (omega arith)
-    (l .inv .3 .most) (l .inv .1)
+    middle-fits (a .b .now) (a .k) (a .t .now) (l .low) (l .high) (omega arith) (l .inv)
+
+-- what the comparison with it tells
+told : (c : tie.After-compare-powers Inv-loop μ-loop) →
+    let l = c .before .before .before .before .loop in
+    let a = c .before .before .before .before .before .before .before .args in
+    let r = c .compare-powers .result in
+    (r ≡ 2 → Between (a .b .now) (a .k) (a .t .now) (l .low + (l .high - l .low) / 2 + 1) (l .high))
+    × (r ≢ 2 → Between (a .b .now) (a .k) (a .t .now) (l .low) (l .low + (l .high - l .low) / 2))
+told c =
+    let l = c .before .before .before .before .loop in
+    let a = c .before .before .before .before .before .before .before .args in
+    between-told (a .b .now) (a .k) (a .t .now) (l .low) (l .high) (omega arith) (l .inv) (c .compare-powers .result)
+    (c .compare-powers .ensures)
 
 loop-holds : tie.Need-loop-holds Inv-loop μ-loop
 loop-holds c =
     let a = c .before .before .args in
-    let r = c .before .before .pre in
-    (r .some, r .source, r .sorted, between-all (a .b .now) (a .k) (a .t .now))
+    between-all (a .b .now) (a .k) (a .t .now) (c .before .before .pre)
 
 sub-middle : tie.Need-sub-middle Inv-loop μ-loop
 sub-middle c = omega arith
@@ -73,9 +81,7 @@ compare-powers-requires : tie.Need-compare-powers-requires Inv-loop μ-loop
 compare-powers-requires c κs =
     let l = c .before .before .before .loop in
     let a = c .before .before .before .before .before .before .args in
-    same-lengths (a .b .now) (a .t .now) ((l .low + (l .high - l .low) / 2) * length (a .t .now)) (l .inv .0)
-    (half-row (l .low) (l .high) (a .k) (length (a .t .now)) (length (a .b .now)) (omega arith) (l .inv .3 .most)
-    (l .inv .1))
+    middle-lengths (a .b .now) (a .k) (a .t .now) (l .low) (l .high) (omega arith) (l .inv)
 
 add-low : tie.Need-add-low Inv-loop μ-loop
 add-low c = omega arith
@@ -84,43 +90,19 @@ loop-less : tie.Need-loop-less Inv-loop μ-loop
 loop-less c = omega arith
 
 loop-again : tie.Need-loop-again Inv-loop μ-loop
-loop-again c =
-    let l = c .before .before .before .before .before .loop in
-    let q = c .before .compare-powers in
-    let a = c .before .before .before .before .before .before .before .before .args in (
-      l .inv .0,
-      l .inv .1,
-      l .inv .2,
-      between-up (a .b .now) (a .k) (a .t .now) (l .low) (l .high) (l .low + (l .high - l .low) / 2) (l .inv .3)
-          (omega arith) (omega arith) (l .inv .0)
-          (half-row (l .low) (l .high) (a .k) (length (a .t .now)) (length (a .b .now)) (omega arith)
-          (l .inv .3 .most) (l .inv .1)) (l .inv .2)
-          (sym (q .ensures) ∙ c .if1 .taken),
-    )
+loop-again c = told (c .before) .0 (c .if1 .taken)
 
 loop-less-2 : tie.Need-loop-less-2 Inv-loop μ-loop
 loop-less-2 c = omega arith
 
 loop-again-2 : tie.Need-loop-again-2 Inv-loop μ-loop
-loop-again-2 c =
-    let l = c .before .before .before .before .before .loop in
-    let q = c .before .compare-powers in
-    let a = c .before .before .before .before .before .before .before .before .args in (
-      l .inv .0,
-      l .inv .1,
-      l .inv .2,
-      between-down (a .b .now) (a .k) (a .t .now) (l .low) (l .high) (l .low + (l .high - l .low) / 2) (l .inv .3)
-          (omega arith) (omega arith) (l .inv .0)
-          (half-row (l .low) (l .high) (a .k) (length (a .t .now)) (length (a .b .now)) (omega arith)
-          (l .inv .3 .most) (l .inv .1))
-          (λ e. c .if1 .left (q .ensures ∙ e)),
-    )
+loop-again-2 c = told (c .before) .1 (c .if1 .left)
 
 returns : tie.Need-returns Inv-loop μ-loop
 returns c =
     let l = c .before .loop in
     let a = c .before .before .before .before .args in
-    between-none (a .b .now) (a .k) (a .t .now) (l .low) (l .high) (c .loop-test .left) (l .inv .3)
+    between-none (a .b .now) (a .k) (a .t .now) (l .low) (l .high) (c .loop-test .left) (l .inv)
 
 pub find-place-spec : {M : Type 1} → statement M
 find-place-spec =

@@ -12,8 +12,8 @@ use Rattle.tokens.specs.Ascii.{comma, closing}
 use Rattle.grammar.specs.declared.formula.FormulaRead.{FormulaRead}
 use Rattle.grammar.specs.Measured.{PlaceIs, joinedOf}
 use Rattle.grammar.proofs.Laws.Measured.{passed-at}
-use Rattle.grammar.proofs.Laws.Paired.{FirstIs, first-formula, first-map, first-place, map-read, mark-two}
-use Rattle.grammar.proofs.Laws.Paired.{mark-image, operand-read, unknown-read, pair-read, pair-none}
+use Rattle.grammar.proofs.Laws.Paired.{Marked, FirstIs, first-formula, first-map, first-place, map-read}
+use Rattle.grammar.proofs.Laws.Paired.{mark-two, mark-image, operand-read, unknown-read, pair-read, pair-none}
 use Rattle.grammar.proofs.formula.formula.Reads as formula
 use Rattle.grammar.proofs.formula.formula.Kinds as formula-kinds
 use Rattle.grammar.proofs.formula.+formula.Lts-formula as formula-lts
@@ -56,6 +56,11 @@ claims t = (
   joined-reads.Asked,
   joined-reads.Learnt,
 )
+
+-- the mark that was found
+marked : (t : ℕ) (c : formula-lts.After-find-mark (claims t) (formula-at t) formula.Post)
+    → let s = c .before .before in Marked (s .args .f .now) (s .args .at) (c .find-mark .result)
+marked t c = record { inside = c .before .before .pre .1; found = c .find-mark .ensures }
 
 -- the first part that was read
 first-is : (t : ℕ) (c : formula-lts.At-match-came (claims t) (formula-at t) formula.Post)
@@ -139,10 +144,8 @@ formula-part-read-requires : (t : ℕ) → formula-lts.Need-part-read-requires (
 formula-part-read-requires t c κs = search needs
 
 formula-returns : (t : ℕ) → formula-lts.Need-returns (claims t) (formula-at t) formula.Post
-formula-returns t c = let s = c .before .before .before .before .before .before in
-    let d = c .before .before .before in
-    unknown-read (s .args .f .now) (s .args .at) (d .before .find-mark .result) (s .pre .1)
-    (d .before .find-mark .ensures) (sym (d .operation-at .ensures) ∙ c .before .enum-told2 .given .1)
+formula-returns t c = let d = c .before .before .before in
+    unknown-read (marked t (d .before)) (sym (d .operation-at .ensures) ∙ c .before .enum-told2 .given .1)
     (c .part-read .ensures)
 
 formula-enum-told-3 : (t : ℕ) → formula-lts.Need-enum-told-3 (claims t) (formula-at t) formula.Post
@@ -152,10 +155,8 @@ formula-operand-requires : (t : ℕ) → formula-lts.Need-operand-requires (clai
 formula-operand-requires t c κs = omega (arith, c .before .before .before .find-mark .ensures)
 
 formula-returns-2 : (t : ℕ) → formula-lts.Need-returns-2 (claims t) (formula-at t) formula.Post
-formula-returns-2 t c = let s = c .before .before .before .before .before .before in
-    let d = c .before .before .before in
-    operand-read (s .args .f .now) (s .args .at) (d .before .find-mark .result) (s .pre .1)
-    (d .before .find-mark .ensures) (sym (d .operation-at .ensures) ∙ c .before .enum-told3 .given .1)
+formula-returns-2 t c = let d = c .before .before .before in
+    operand-read (marked t (d .before)) (sym (d .operation-at .ensures) ∙ c .before .enum-told3 .given .1)
     (c .operand .ensures)
 
 formula-passed-requires : (t : ℕ) → formula-lts.Need-passed-requires (claims t) (formula-at t) formula.Post
@@ -180,11 +181,9 @@ formula-joined-requires t c κs = let left = left-at t (c .before .before .befor
 
 formula-returns-3 : (t : ℕ) → formula-lts.Need-returns-3 (claims t) (formula-at t) formula.Post
 formula-returns-3 t c = let d = c .before .before .before .before in
-    let e = d .before .before .before in
-    let s = e .before .before in
-    pair-read (s .args .f .now) (s .args .at) (e .find-mark .result) (s .pre .1) (e .find-mark .ensures)
-    (d .before .match .first) (d .passed .result) (c .before .before .formula2 .result) (first-is t (d .before))
-    (d .passed .ensures) (c .before .before .before .if1 .taken) (c .before .before .formula2 .ensures)
+    pair-read (marked t (d .before .before .before)) (d .before .match .first) (d .passed .result)
+    (c .before .before .formula2 .result) (first-is t (d .before)) (d .passed .ensures)
+    (c .before .before .before .if1 .taken) (c .before .before .formula2 .ensures)
     (c .joined .ensures ∙ ap (λ (q : FormulaRead). joinedOf (d .passed .result) q) (c .before .passed2 .ensures))
 
 formula-part-read-requires-2 : (t : ℕ) → formula-lts.Need-part-read-requires-2 (claims t) (formula-at t) formula.Post
@@ -192,11 +191,8 @@ formula-part-read-requires-2 t c κs = search needs
 
 formula-returns-4 : (t : ℕ) → formula-lts.Need-returns-4 (claims t) (formula-at t) formula.Post
 formula-returns-4 t c = let d = c .before .before in
-    let e = d .before .before .before in
-    let s = e .before .before in
-    pair-none (s .args .f .now) (s .args .at) (e .find-mark .result) (s .pre .1) (e .find-mark .ensures)
-    (d .before .match .first) (d .passed .result) (first-is t (d .before)) (d .passed .ensures) (c .before .if1 .left)
-    (c .part-read2 .ensures)
+    pair-none (marked t (d .before .before .before)) (d .before .match .first) (d .passed .result)
+    (first-is t (d .before)) (d .passed .ensures) (c .before .if1 .left) (c .part-read2 .ensures)
 
 pub +formula-spec : {M : Type 1} → statement M
 +formula-spec = close μ-formula λ t. formula-lts.spec (claims t)

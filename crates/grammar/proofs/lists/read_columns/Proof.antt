@@ -1,17 +1,21 @@
 -- The invariant: the first `j` columns are read. Assumes nothing.
 use Prim.Native.Nat.{ℕ, _+_, _-_, _≤_, _<_}
 use Rattle.tokens.proofs.Laws.Answers.{number-back}
-use Rattle.grammar.proofs.Laws.Each.{onto, each-pass, each-fail, each-done, columns-eleven, columns-other}
+use Rattle.grammar.proofs.Laws.Each.{onto, onto-none, each-pass, each-fail, each-done}
+use Rattle.grammar.proofs.Laws.Each.{counted-right, counted-wrong}
 use Rattle.grammar.proofs.lists.read_columns.Statement.{statement}
 use Rattle.grammar.proofs.lists.read_columns.Tie as tie
 use Rattle.grammar.specs.Line.{piecesIn}
-use Rattle.grammar.specs.Record.{each, field}
+use Rattle.grammar.specs.Record.{each, field, mayHave}
 use Rattle.tokens.specs.Answer.{numberAt}
 use Rattle.grammar.specs.Recorded.{columnsOf}
 use Rattle.tokens.specs.Token.{readHex}
+use Rattle.tokens.specs.declared.word.Word.the-variants as Word
 use borrow.Author.Needs.{needs}
+use borrow.Author.Tests.{eqb-true, not-true, not-false}
 use lib.ListN.{length, take, drop, set, length-set}
 use lib.Seq.{take-suc-set, take-all}
+use mathlib.Core.Bool.{true}
 use mathlib.Core.List.{List, [], _∷_, _++_}
 use mathlib.Core.Option.{some}
 use mathlib.Core.Path.{_≡_, refl, sym, ap, _∙_}
@@ -25,21 +29,26 @@ Inv-loop s l bytes₀ j₀ bytes j = (j ≤ 8) × (length bytes ≡ 8) × (lengt
 abbrev μ-loop : tie.MeasureT-loop
 μ-loop s l bytes₀ j₀ bytes j = 8 - j
 
-piece-count-requires : tie.Need-piece-count-requires Inv-loop μ-loop
-piece-count-requires c κs = search needs
+fits-word-requires : tie.Need-fits-word-requires Inv-loop μ-loop
+fits-word-requires c κs = search needs
 
 returns : tie.Need-returns Inv-loop μ-loop
+unfolding columnsOf
 returns c =
     let a = c .before .before .before .args in
-    let other : length (piecesIn (a .s .now) (a .l)) ≡ 11
-    → ⊥ = λ e. c .if1 .taken (c .before .piece-count .ensures ∙ e) in
-    columns-other (piecesIn (a .s .now) (a .l)) other
+    let ps = piecesIn (a .s .now) (a .l) in
+    counted-wrong Word.Map ps (each readHex (drop 3 ps))
+    (sym (c .before .fits-word .ensures) ∙ not-true (c .before .fits-word .result) (c .if1 .taken))
 
 loop-holds : tie.Need-loop-holds Inv-loop μ-loop
+unfolding columnsOf
 loop-holds c =
     let a = c .before .before .before .args in
-    let eleven : length (piecesIn (a .s .now) (a .l)) ≡ 11 = sym (c .before .piece-count .ensures) ∙ c .if1 .left in
-    (omega arith, refl, eleven, columns-eleven (piecesIn (a .s .now) (a .l)) eleven)
+    let ps = piecesIn (a .s .now) (a .l) in
+    let o = each readHex (drop 3 ps) in
+    let fits : mayHave Word.Map (length ps) ≡ true =
+    sym (c .before .fits-word .ensures) ∙ not-false (c .before .fits-word .result) (c .if1 .left) in
+    (omega arith, refl, eqb-true (length ps) 11 fits, counted-right Word.Map ps o fits ∙ onto-none o)
 
 add-hex-field : tie.Need-add-hex-field Inv-loop μ-loop
 add-hex-field c = search needs
@@ -108,7 +117,7 @@ read-columns-spec =
     (tie.spec
     Inv-loop
     μ-loop
-    piece-count-requires
+    fits-word-requires
     returns
     loop-holds
     add-hex-field

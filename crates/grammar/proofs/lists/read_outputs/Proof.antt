@@ -1,17 +1,22 @@
 -- The invariant: the first `j` names are read. Assumes nothing.
 use Prim.Native.Nat.{ℕ, _+_, _-_, _≤_, _<_}
-use Rattle.grammar.proofs.Laws.Each.{onto, each-pass, each-fail, each-done}
-use Rattle.grammar.proofs.Laws.Each.{names-some, names-few, names-many, none-read}
+use Rattle.grammar.proofs.Laws.Each.{onto, onto-none, each-pass, each-fail, each-done}
+use Rattle.grammar.proofs.Laws.Each.{counted-right, counted-wrong, none-read}
+use Rattle.tokens.proofs.Laws.Flags.{and-true}
 use Rattle.grammar.proofs.lists.read_outputs.Statement.{statement}
 use Rattle.grammar.proofs.lists.read_outputs.Tie as tie
 use Rattle.grammar.specs.Line.{piecesIn, nameAt}
 use Rattle.grammar.specs.Line.{nameIn}
-use Rattle.grammar.specs.Record.{each}
+use Rattle.grammar.specs.Record.{each, mayHave}
 use Rattle.grammar.specs.Recorded.{namesOf, namesRead}
 use Rattle.tokens.specs.Token.{Name, readName}
+use Rattle.tokens.specs.declared.word.Word.the-variants as Word
 use borrow.Author.Needs.{needs}
+use borrow.Author.Tests.{leb-true, not-true, not-false}
+use lib.Dec.{leb}
 use lib.ListN.{length, take, drop, set, length-set}
 use lib.Seq.{take-suc-set}
+use mathlib.Core.Bool.{true}
 use mathlib.Core.List.{List, [], _∷_, _++_, map, map-append}
 use mathlib.Core.Path.{_≡_, sym, ap, _∙_}
 use native.Mathlib.Numerals.{add-one}
@@ -25,34 +30,48 @@ Inv-loop s l none items₀ n j₀ items j =
 abbrev μ-loop : tie.MeasureT-loop
 μ-loop s l none items₀ n j₀ items j = n - j
 
+-- whether the line has a number of fields that an output may have
+told : (d : tie.After-may-have Inv-loop μ-loop)
+    → (let a = d .before .before .before .before .before .args in
+    d .may-have .result ≡ mayHave Word.Output (length (piecesIn (a .s .now) (a .l))))
+told d = d .may-have .ensures ∙ ap (mayHave Word.Output) (d .before .piece-count .ensures)
+
 no-outputs-requires : tie.Need-no-outputs-requires Inv-loop μ-loop
 no-outputs-requires c κs = search needs
 
 piece-count-requires : tie.Need-piece-count-requires Inv-loop μ-loop
 piece-count-requires c κs = search needs
 
-returns : tie.Need-returns Inv-loop μ-loop
-returns c =
-    let d = c .before .before .before in
-    let a = d .before .before .args in
-    none-read (a .s .now) (a .l) (d .no-outputs .result) (d .no-outputs .ensures)
-    (names-few (piecesIn (a .s .now) (a .l)) (omega (arith, c .before .piece-count .ensures, c .if1 .taken)))
+may-have-requires : tie.Need-may-have-requires Inv-loop μ-loop
+may-have-requires c κs = search needs
 
-returns-2 : tie.Need-returns-2 Inv-loop μ-loop
-returns-2 c =
+returns : tie.Need-returns Inv-loop μ-loop
+unfolding namesOf
+returns c =
     let d = c .before .before .before .before in
     let a = d .before .before .args in
+    let ps = piecesIn (a .s .now) (a .l) in
     none-read (a .s .now) (a .l) (d .no-outputs .result) (d .no-outputs .ensures)
-    (names-many (piecesIn (a .s .now) (a .l)) (omega (arith, c .before .before .piece-count .ensures, c .if2 .taken)))
+    (counted-wrong Word.Output ps (each readName (drop 1 ps))
+    (sym (told (c .before)) ∙ not-true (c .before .may-have .result) (c .if1 .taken)))
 
 loop-holds : tie.Need-loop-holds Inv-loop μ-loop
+unfolding namesOf
 loop-holds c =
     let d = c .before .before in
     let a = d .before .before .before .before .args in
     let ps = piecesIn (a .s .now) (a .l) in
     let size = d .piece-count .ensures in
-    let wide = d .before .before .no-outputs .ensures .size in
-    (omega arith, wide, omega arith, sym size, names-some ps (omega arith) (omega arith))
+    let o = each readName (drop 1 ps) in
+    let fits : mayHave Word.Output (length ps) ≡ true =
+    sym (told (c .before)) ∙ not-false (c .before .may-have .result) (c .if1 .left) in
+    let ends = and-true (leb 2 (length ps)) (leb (length ps) 9) fits in (
+      omega (arith, size, leb-true 2 (length ps) (ends .0)),
+      d .before .before .no-outputs .ensures .size,
+      omega (arith, size, leb-true (length ps) 9 (ends .1)),
+      sym size,
+      counted-right Word.Output ps o fits ∙ onto-none o,
+    )
 
 add-loop : tie.Need-add-loop Inv-loop μ-loop
 add-loop c = search needs
@@ -75,8 +94,8 @@ array-set-from-items c = search needs
 enum-told : tie.Need-enum-told Inv-loop μ-loop
 enum-told c = search needs
 
-returns-3 : tie.Need-returns-3 Inv-loop μ-loop
-returns-3 c =
+returns-2 : tie.Need-returns-2 Inv-loop μ-loop
+returns-2 c =
     let d = c .before .before in
     let at = c .before .before .before .before in
     let made = at .before .before .before .before .before in
@@ -117,9 +136,9 @@ loop-again c =
           (sym (ap (map (nameIn t)) longer ∙ map-append (nameIn t) (take j items) (x ∷ []))),
     )
 
-returns-4 : tie.Need-returns-4 Inv-loop μ-loop
+returns-3 : tie.Need-returns-3 Inv-loop μ-loop
 unfolding namesRead
-returns-4 c =
+returns-3 c =
     let at = c .before in
     let a = at .before .before .before .before .before .before .before .args in
     let t = a .s .now in
@@ -139,8 +158,8 @@ read-outputs-spec =
     μ-loop
     no-outputs-requires
     piece-count-requires
+    may-have-requires
     returns
-    returns-2
     loop-holds
     add-loop
     add-name-field
@@ -149,8 +168,8 @@ read-outputs-spec =
     mul-items
     array-set-from-items
     enum-told
-    returns-3
+    returns-2
     add-j
     loop-less
     loop-again
-    returns-4)
+    returns-3)

@@ -30,7 +30,7 @@ use Rattle.grammar.proofs.formula.operation_at.Reads as operation-at-reads
 use Rattle.lookup.proofs.compile.find_map.Reads as find-map-reads
 use Rattle.lookup.proofs.compile.find_operand.Reads as find-operand-reads
 use Rattle.lookup.proofs.compile.made.Reads as made-reads
-use Rattle.lookup.proofs.compile.operate.Reads as operate-reads
+use Rattle.lookup.proofs.scope.operate.Reads as operate-reads
 use Rattle.lookup.proofs.compile.put_op.Reads as put-op-reads
 use Rattle.lookup.proofs.flags.one_of.Reads as one-of-reads
 use Rattle.tokens.proofs.bytes.find_mark.Reads as find-mark-reads

@@ -4,12 +4,6 @@ use mathlib.Core.Path.{_∙_}
 use borrow.Author.Needs.{needs}
 use Rattle.lookup.proofs.compile.find_map.Statement.{statement}
 use Rattle.lookup.proofs.compile.find_map.Tie as tie
-use Rattle.lookup.proofs.compile.find_map.Reads as reads
-use Rattle.lookup.proofs.compile.find_map.Lts as lts
-use Rattle.lookup.proofs.compile.made.Reads as made-reads
-use Rattle.grammar.proofs.line.name_at.Reads as name-at-reads
-use Rattle.lookup.proofs.scope.find_map.Reads as find-map-reads
-use Rattle.tokens.proofs.bytes.find_mark.Reads as find-mark-reads
 
 find-mark-requires : tie.Need-find-mark-requires
 find-mark-requires c κs = search needs
@@ -23,21 +17,24 @@ sub-name-at c = search needs
 name-at-requires : tie.Need-name-at-requires
 name-at-requires c κs = search needs
 
-find-map-requires : tie.Need-find-map-requires
-find-map-requires c κs = search needs
+term-of-requires : tie.Need-term-of-requires
+term-of-requires c κs = search needs
+
+find-term-requires : tie.Need-find-term-requires
+find-term-requires c κs = search needs
 
 made-requires : tie.Need-made-requires
 made-requires c κs = search needs
 
 returns : tie.Need-returns
 returns c =
-    let m = c .before .before .before .before .before in
+    let m = c .before .before .before .before .before .before in
     let s = m .before .before .before in
-    let g = c .before .find-map in
+    let n = c .before .before .before .before .name-at in
+    let a = c .before .before .term-of in
     c .made .ensures ∙ map-looked (s .args .s .now) (s .args .t .now) (s .args .f .now) (s .args .w) (s .args .at)
-    (s .args .done) (m .find-mark .result) (s .pre .0) (s .pre .1) (m .find-mark .ensures)
-    (c .before .before .before .name-at .result)
-    (c .before .before .before .name-at .ensures) (g .ensures)
+    (s .args .done) (m .find-mark .result) (s .pre .0) (s .pre .1) (m .find-mark .ensures) (n .result) (n .ensures)
+    (a .result) (a .ensures (s .args .s .now)) (c .before .find-term .ensures)
 
 pub find-map-spec : {M : Type 1} → statement M
 find-map-spec =
@@ -47,6 +44,7 @@ find-map-spec =
     add-name-at
     sub-name-at
     name-at-requires
-    find-map-requires
+    term-of-requires
+    find-term-requires
     made-requires
     returns)

@@ -4,11 +4,6 @@ use mathlib.Core.Path.{_∙_}
 use borrow.Author.Needs.{needs}
 use Rattle.lookup.proofs.compile.find_operand.Statement.{statement}
 use Rattle.lookup.proofs.compile.find_operand.Tie as tie
-use Rattle.lookup.proofs.compile.find_operand.Reads as reads
-use Rattle.lookup.proofs.compile.find_operand.Lts as lts
-use Rattle.lookup.proofs.compile.made.Reads as made-reads
-use Rattle.grammar.proofs.line.term_at.Reads as term-at-reads
-use Rattle.lookup.proofs.scope.find_term.Reads as find-term-reads
 
 add-term-at : tie.Need-add-term-at
 add-term-at c = search needs

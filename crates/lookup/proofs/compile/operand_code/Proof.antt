@@ -4,8 +4,6 @@ use mathlib.Core.Path.{ap, sym}
 use borrow.Author.Needs.{needs}
 use Rattle.lookup.proofs.compile.operand_code.Statement.{statement}
 use Rattle.lookup.proofs.compile.operand_code.Tie as tie
-use Rattle.lookup.proofs.compile.operand_code.Reads as reads
-use Rattle.lookup.proofs.compile.operand_code.Lts as lts
 
 enum-known-a : tie.Need-enum-known-a
 enum-known-a c = search needs

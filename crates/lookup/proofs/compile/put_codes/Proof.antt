@@ -4,8 +4,6 @@ use mathlib.Core.Path.{refl}
 use borrow.Author.Needs.{needs}
 use Rattle.lookup.proofs.compile.put_codes.Statement.{statement}
 use Rattle.lookup.proofs.compile.put_codes.Tie as tie
-use Rattle.lookup.proofs.compile.put_codes.Reads as reads
-use Rattle.lookup.proofs.compile.put_codes.Lts as lts
 
 mul-i : tie.Need-mul-i
 mul-i c = search needs

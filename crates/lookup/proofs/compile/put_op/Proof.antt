@@ -1,13 +1,21 @@
 -- Each operation has its three numbers. Assumes nothing.
 use Rattle.lookup.specs.Coded.{kindCode, leftCode, rightCode, putCodes, putOp}
-use mathlib.Core.Path.{ap, sym, _∙_}
+use Rattle.rules.specs.declared.types.Op.{Op}
+use Prim.Native.Nat.{ℕ}
+use mathlib.Core.List.{List}
+use mathlib.Core.Path.{_≡_, refl, ap, sym, _∙_}
 use borrow.Author.Needs.{needs}
 use Rattle.lookup.proofs.compile.put_op.Statement.{statement}
 use Rattle.lookup.proofs.compile.put_op.Tie as tie
-use Rattle.lookup.proofs.compile.put_op.Reads as reads
-use Rattle.lookup.proofs.compile.put_op.Lts as lts
-use Rattle.lookup.proofs.compile.operand_code.Reads as operand-code-reads
-use Rattle.lookup.proofs.compile.put_codes.Reads as put-codes-reads
+
+-- the numbers of the operation are stored
+stored : (d : tie.Start) {o : Op} {left right : ℕ} {exit : List ℕ} → let a = d .args in
+    a .o ≡ o → exit ≡ putCodes (a .out .now) (a .k) (kindCode o) left right → left ≡ leftCode o → right ≡ rightCode o
+    → exit ≡ putOp (a .out .now) (a .k) (a .o)
+unfolding putOp
+stored d {o = o} e q l r =
+    let a = d .args in
+    q ∙ (λ i. putCodes (a .out .now) (a .k) (kindCode o) (l i) (r i)) ∙ ap (putOp (a .out .now) (a .k)) (sym e)
 
 enum-known-o : tie.Need-enum-known-o
 enum-known-o c = search needs
@@ -58,46 +66,36 @@ put-codes-requires-5 : tie.Need-put-codes-requires-5
 put-codes-requires-5 c κs = search needs
 
 returns : tie.Need-returns
-unfolding putOp kindCode leftCode rightCode
+unfolding kindCode leftCode rightCode
 returns c =
-    let s = c .before .before .before .before .before .before in
-    c .put-codes .ensures
-    ∙ (λ i. putCodes (s .args .out .now) (s .args .k) 0 (c .before .operand-code .ensures i) (0))
-    ∙ ap (putOp (s .args .out .now) (s .args .k)) (sym (c .before .before .before .before .o .given .1))
+    stored (c .before .before .before .before .before .before) (c .before .before .before .before .o .given .1)
+    (c .put-codes .ensures) (c .before .operand-code .ensures) refl
 
 returns-2 : tie.Need-returns-2
-unfolding putOp kindCode leftCode rightCode
+unfolding kindCode leftCode rightCode
 returns-2 c =
-    let s = c .before .before .before .before .before .before .before in
-    c .put-codes2 .ensures
-    ∙ (λ i. putCodes (s .args .out .now) (s .args .k) 1 (c .before .before .operand-code2 .ensures i)
-    (c .before .operand-code3 .ensures i))
-    ∙ ap (putOp (s .args .out .now) (s .args .k)) (sym (c .before .before .before .before .before .o2 .given .1))
+    let b = c .before .before in
+    stored (b .before .before .before .before .before) (b .before .before .before .o2 .given .1)
+    (c .put-codes2 .ensures) (b .operand-code2 .ensures) (c .before .operand-code3 .ensures)
 
 returns-3 : tie.Need-returns-3
-unfolding putOp kindCode leftCode rightCode
+unfolding kindCode leftCode rightCode
 returns-3 c =
-    let s = c .before .before .before .before .before .before .before in
-    c .put-codes3 .ensures
-    ∙ (λ i. putCodes (s .args .out .now) (s .args .k) 2 (c .before .before .operand-code4 .ensures i)
-    (c .before .operand-code5 .ensures i))
-    ∙ ap (putOp (s .args .out .now) (s .args .k)) (sym (c .before .before .before .before .before .o3 .given .1))
+    let b = c .before .before in
+    stored (b .before .before .before .before .before) (b .before .before .before .o3 .given .1)
+    (c .put-codes3 .ensures) (b .operand-code4 .ensures) (c .before .operand-code5 .ensures)
 
 returns-4 : tie.Need-returns-4
-unfolding putOp kindCode leftCode rightCode
+unfolding kindCode leftCode rightCode
 returns-4 c =
-    let s = c .before .before .before .before .before .before in
-    let x = c .before .before .before .before .o4 .given in
-    c .put-codes4 .ensures
-    ∙ (λ i. putCodes (s .args .out .now) (s .args .k) 3 (x .0 .0) (c .before .operand-code6 .ensures i))
-    ∙ ap (putOp (s .args .out .now) (s .args .k)) (sym (x .1))
+    stored (c .before .before .before .before .before .before) (c .before .before .before .before .o4 .given .1)
+    (c .put-codes4 .ensures) refl (c .before .operand-code6 .ensures)
 
 returns-5 : tie.Need-returns-5
-unfolding putOp kindCode leftCode rightCode
+unfolding kindCode leftCode rightCode
 returns-5 c =
-    let s = c .before .before .before .before .before in
-    c .put-codes5 .ensures
-    ∙ ap (putOp (s .args .out .now) (s .args .k)) (sym (c .before .before .before .o5 .given .1))
+    stored (c .before .before .before .before .before) (c .before .before .before .o5 .given .1)
+    (c .put-codes5 .ensures) refl refl
 
 pub put-op-spec : {M : Type 1} → statement M
 put-op-spec =

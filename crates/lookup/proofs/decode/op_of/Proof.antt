@@ -6,9 +6,6 @@ use mathlib.Core.Path.{ap}
 use borrow.Author.Needs.{needs}
 use Rattle.lookup.proofs.decode.op_of.Statement.{statement}
 use Rattle.lookup.proofs.decode.op_of.Tie as tie
-use Rattle.lookup.proofs.decode.op_of.Reads as reads
-use Rattle.lookup.proofs.decode.op_of.Lts as lts
-use Rattle.lookup.proofs.decode.operand_of.Reads as operand-of-reads
 
 operand-of-requires : tie.Need-operand-of-requires
 operand-of-requires c κs = search needs

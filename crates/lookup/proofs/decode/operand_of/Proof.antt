@@ -4,8 +4,6 @@ use Rattle.lookup.specs.Coded.{operandOf}
 use borrow.Author.Needs.{needs}
 use Rattle.lookup.proofs.decode.operand_of.Statement.{statement}
 use Rattle.lookup.proofs.decode.operand_of.Tie as tie
-use Rattle.lookup.proofs.decode.operand_of.Reads as reads
-use Rattle.lookup.proofs.decode.operand_of.Lts as lts
 
 returns : tie.Need-returns
 unfolding operandOf

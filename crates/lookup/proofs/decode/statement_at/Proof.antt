@@ -3,9 +3,6 @@ use Rattle.lookup.specs.Coded.{opAt}
 use borrow.Author.Needs.{needs}
 use Rattle.lookup.proofs.decode.statement_at.Statement.{statement}
 use Rattle.lookup.proofs.decode.statement_at.Tie as tie
-use Rattle.lookup.proofs.decode.statement_at.Reads as reads
-use Rattle.lookup.proofs.decode.statement_at.Lts as lts
-use Rattle.lookup.proofs.decode.op_of.Reads as op-of-reads
 
 mul-i : tie.Need-mul-i
 mul-i c = search needs

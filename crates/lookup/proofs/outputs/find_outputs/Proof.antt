@@ -13,7 +13,7 @@ use Rattle.tokens.specs.Token.{Name}
 use Rattle.grammar.specs.Recorded.{namesRead}
 use Rattle.grammar.specs.Line.{nameIn}
 use Rattle.lookup.specs.Names.{namesIn}
-use Rattle.lookup.proofs.Laws.Named.{nowhere, names-length, names-at}
+use Rattle.lookup.proofs.Laws.Named.{nowhere, read-length, read-at}
 use borrow.Author.Needs.{needs}
 use native.Mathlib.Omega.{arith}
 use Prim.Native.Nat.{ℕ, _≤_, _<_, _+_, _-_}
@@ -62,20 +62,18 @@ loop-less : tie.Need-loop-less Inv-loop μ-loop
 loop-less c = search needs
 
 loop-again : tie.Need-loop-again Inv-loop μ-loop
-unfolding nameFound
+unfolding namesRead nameFound
 loop-again c =
     let d = c .before .before .before .before .before .before .before in
     let s = d .args .s .now in
-    let items = d .args .o .items in
-    let count = d .args .o .count in
-    let ns = map (nameIn s) (take count items) in
-    let size : count ≤ length items = omega (arith, d .pre .0 .few, d .pre .0 .size) in
-    let long = names-length s items count size in
+    let o = d .args .o in
+    let ns = namesRead s o in
+    let long = read-length s o (d .pre .0) in
     let L = c .before .before .before .before .loop in
     let i = L .i in
     let ms = namesIn s (d .args .t .now) (d .args .set) in
     let f : Name → ℕ = λ x. placeOf x ms in
-    let here = names-at s items count size i (omega arith) in
+    let here = read-at s o (d .pre .0) i (omega arith) in
     let found = c .before .find-name in
     let place = found .result .place in
     let absent = ap (λ (y : NameFound). y .unknown) (found .ensures) ∙ ap (missing ms) (sym here) in
@@ -96,15 +94,13 @@ unfolding namesRead
 returns c =
     let d = c .before .before .before .before in
     let s = d .args .s .now in
-    let items = d .args .o .items in
-    let count = d .args .o .count in
-    let ns = map (nameIn s) (take count items) in
-    let size : count ≤ length items = omega (arith, d .pre .0 .few, d .pre .0 .size) in
-    let long = names-length s items count size in
+    let o = d .args .o in
+    let ns = namesRead s o in
+    let long = read-length s o (d .pre .0) in
     let L = c .before .loop in
     let i = L .i in
     let ms = namesIn s (d .args .t .now) (d .args .set) in
-    let all : count ≡ i = omega arith in
+    let all : o .count ≡ i = omega arith in
     record {
       unknown = any-done (nameIn s nowhere) ns i (missing ms) (L .unknown) (L .inv .2) (omega arith);
       places =

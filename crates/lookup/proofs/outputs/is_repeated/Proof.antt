@@ -5,7 +5,7 @@ use Rattle.tokens.specs.Token.{Name}
 use Rattle.lookup.specs.Names.{listed, namesIn, put}
 use Rattle.rules.specs.Scope.{given, repeated, repeatedIn}
 use Rattle.rules.proofs.Laws.Listing.{repeated-pass, repeated-hit, repeated-done}
-use Rattle.lookup.proofs.Laws.Named.{nowhere, names-length, names-at, put-length, listed-next}
+use Rattle.lookup.proofs.Laws.Named.{nowhere, read-length, read-at, put-length, listed-next}
 use native.Mathlib.Omega.{arith}
 use Prim.Native.Nat.{ℕ, _≤_, _+_, _-_}
 use mathlib.Core.Path.{_≡_, refl, ap, sym, _∙_}
@@ -44,15 +44,13 @@ unfolding namesRead namesIn
 returns c =
     let d = c .before .before .before .before .before .before .before .before .before in
     let s = d .args .s .now in
-    let items = d .args .o .items in
-    let count = d .args .o .count in
-    let ns = map (nameIn s) (take count items) in
-    let size : count ≤ length items = omega (arith, d .pre .few, d .pre .size) in
-    let long = names-length s items count size in
+    let o = d .args .o in
+    let ns = namesRead s o in
+    let long = read-length s o (d .pre) in
     let L = c .before .before .before .before .before .loop in
     let i = L .i in
     let seen = listed s (L .seen) 0 i in
-    let told = ap (λ (x : Name). given x seen) (names-at s items count size i (omega arith))
+    let told = ap (λ (x : Name). given x seen) (read-at s o (d .pre) i (omega arith))
     ∙ sym (c .before .is-given .ensures) ∙ c .if1 .taken in
     repeated-hit (nameIn s nowhere) ns i seen (L .inv .2) (omega arith) told
 
@@ -66,22 +64,20 @@ loop-less : tie.Need-loop-less Inv-loop μ-loop
 loop-less c = search needs
 
 loop-again : tie.Need-loop-again Inv-loop μ-loop
-unfolding namesIn
+unfolding namesRead namesIn
 loop-again c =
     let b2 = c .before .before in
     let b3 = c .before .before .before in
     let d = c .before .before .before .before .before .before .before .before .before .before .before in
     let s = d .args .s .now in
-    let items = d .args .o .items in
-    let count = d .args .o .count in
-    let ns = map (nameIn s) (take count items) in
-    let size : count ≤ length items = omega (arith, d .pre .few, d .pre .size) in
-    let long = names-length s items count size in
+    let o = d .args .o in
+    let ns = namesRead s o in
+    let long = read-length s o (d .pre) in
     let L = c .before .before .before .before .before .before .before .loop in
     let i = L .i in
     let seen = listed s (L .seen) 0 i in
-    let n = lib.ListN.getD items i nowhere in
-    let here = names-at s items count size i (omega arith) in
+    let n = lib.ListN.getD (o .items) i nowhere in
+    let here = read-at s o (d .pre) i (omega arith) in
     let told = ap (λ (x : Name). given x seen) here ∙ sym (b3 .is-given .ensures) ∙ b2 .if1 .left in
     let at : 0 + i ≡ i = omega arith in
     let few : i ≤ 8 = omega (arith, d .pre .few) in
@@ -100,11 +96,9 @@ unfolding namesRead
 returns-2 c =
     let d = c .before .before .before .before .before in
     let s = d .args .s .now in
-    let items = d .args .o .items in
-    let count = d .args .o .count in
-    let ns = map (nameIn s) (take count items) in
-    let size : count ≤ length items = omega (arith, d .pre .few, d .pre .size) in
-    let long = names-length s items count size in
+    let o = d .args .o in
+    let ns = namesRead s o in
+    let long = read-length s o (d .pre) in
     let L = c .before .loop in
     repeated-done (nameIn s nowhere) ns (L .i) (listed s (L .seen) 0 (L .i)) (L .inv .2) (omega arith)
 

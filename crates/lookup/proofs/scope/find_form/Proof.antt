@@ -1,5 +1,5 @@
 -- Each case from what is found for its operands. Assumes nothing.
-use Rattle.lookup.proofs.Laws.Finding.{set-found, form-known, rand-found}
+use Rattle.lookup.proofs.Laws.Finding.{set-found, two-found, app-found, rand-found}
 use borrow.Author.Needs.{needs}
 use Rattle.lookup.proofs.scope.find_form.Statement.{statement}
 use Rattle.lookup.proofs.scope.find_form.Tie as tie
@@ -19,8 +19,11 @@ find-pair-requires c κs = search needs
 enum-known-f-3 : tie.Need-enum-known-f-3
 enum-known-f-3 c = search needs
 
-find-app-requires : tie.Need-find-app-requires
-find-app-requires c κs = search needs
+term-of-requires : tie.Need-term-of-requires
+term-of-requires c κs = search needs
+
+find-pair-requires-2 : tie.Need-find-pair-requires-2
+find-pair-requires-2 c κs = search needs
 
 enum-told : tie.Need-enum-told
 enum-told c = search needs
@@ -34,14 +37,14 @@ returns c =
 returns-2 : tie.Need-returns-2
 returns-2 c =
     let a = c .before .before .before .before .before .args in
-    form-known (a .s .now) (a .t .now) (a .set) (a .maps) (a .v) (c .before .before .f2 .given .1)
-    (c .find-pair .ensures (a .maps) (a .v))
+    two-found (a .s .now) (a .t .now) (a .set) (a .maps) (a .v) _ _ _ (c .before .before .f2 .given .1)
+    (c .find-pair .ensures)
 
 returns-3 : tie.Need-returns-3
 returns-3 c =
-    let b2 = c .before .before in
-    let a = c .before .before .before .before .before .args in
-    form-known (a .s .now) (a .t .now) (a .set) (a .maps) (a .v) (b2 .f3 .given .1) (c .find-app .ensures (a .v))
+    let a = c .before .before .before .before .before .before .args in
+    app-found (a .s .now) (a .t .now) (a .set) (a .maps) (a .v) _ _ (c .before .before .before .f3 .given .1)
+    (c .before .term-of .result) (c .before .term-of .ensures (a .s .now)) (c .find-pair2 .ensures)
 
 returns-4 : tie.Need-returns-4
 returns-4 c =
@@ -57,7 +60,8 @@ find-form-spec =
     enum-known-f-2
     find-pair-requires
     enum-known-f-3
-    find-app-requires
+    term-of-requires
+    find-pair-requires-2
     enum-told
     returns
     returns-2

@@ -1,8 +1,10 @@
--- `print::word::word_size` meets its contract. Assumes nothing.
-use Rattle.print.proofs.Laws.Line.{word-equal, word-differs, word-unknown, word-refused}
+-- `print::word::word_size` meets its contract. Each length by computing. Assumes nothing.
 use mathlib.Core.Path.{ap}
 use lib.ListN.{length}
 use borrow.Author.Needs.{needs}
+use Rattle.tokens.specs.Ascii.{ascii}
+use Rattle.verdict.specs.Print.{word}
+use Rattle.print.proofs.Laws.Line.{word-told}
 use Rattle.print.proofs.word.word_size.Statement.{statement}
 use Rattle.print.proofs.word.word_size.Tie as tie
 
@@ -19,16 +21,20 @@ enum-told-4 : tie.Need-enum-told-4
 enum-told-4 c = search needs
 
 returns : tie.Need-returns
-returns c = (ap length (word-equal (c .before .before .args .verdict) (c .enum-told .given .1)), search needs)
+unfolding word ascii
+returns c = (ap length (word-told (c .enum-told .given .1)), search needs)
 
 returns-2 : tie.Need-returns-2
-returns-2 c = (ap length (word-differs (c .before .before .args .verdict) (c .enum-told2 .given .1)), search needs)
+unfolding word ascii
+returns-2 c = (ap length (word-told (c .enum-told2 .given .1)), search needs)
 
 returns-3 : tie.Need-returns-3
-returns-3 c = (ap length (word-unknown (c .before .before .args .verdict) (c .enum-told3 .given .1)), search needs)
+unfolding word ascii
+returns-3 c = (ap length (word-told (c .enum-told3 .given .1)), search needs)
 
 returns-4 : tie.Need-returns-4
-returns-4 c = (ap length (word-refused (c .before .before .args .verdict) (c .enum-told4 .given .1)), search needs)
+unfolding word ascii
+returns-4 c = (ap length (word-told (c .enum-told4 .given .1)), search needs)
 
 pub word-size-spec : {M : Type 1} → statement M
 word-size-spec =

@@ -67,7 +67,7 @@ term-product-requires c κs =
     let l = c .before .before .before .before .before .loop in
     let a = c .before .before .before .before .before .before .before .before .args in
     let s = one-length (a .m) (a .src .now) (a .k) (a .t .now) (l .src) (l .t) (l .j) (l .at) (omega arith) (l .inv) in
-    (omega (arith, l .inv .some, l .inv .spare), s, s)
+    (omega (arith, l .inv .some, l .inv .spare), omega (arith, s), s)
 
 write-at-requires : tie.Need-write-at-requires Inv-loop μ-loop
 write-at-requires c κs =

@@ -1,10 +1,9 @@
 -- `product::merge::first_of` meets its contract: the sum is at its end, or the powers are compared. Assumes nothing.
 use Prim.Native.Nat.{_+_, _*_, _≤_}
-use mathlib.Core.Path.{_≡_, ap, _∙_}
+use mathlib.Core.Path.{_∙_}
 use native.Mathlib.Omega.{arith}
-use native.Mathlib.Nat.{mul-le-mul-right, suc-mul}
-use native.Mathlib.Numerals.{add-one}
 use lib.ListN.{length}
+use Rattle.buffer.proofs.Lent.Strides.{rows-below}
 use Rattle.product.proofs.Lent.Merging.{facing-end, facing-met}
 use borrow.Author.Needs.{needs}
 use Rattle.product.proofs.merge.first_of.Statement.{statement}
@@ -16,9 +15,7 @@ here : (c : tie.Start) →
     (a .j * a .w + a .w ≤ length (a .b .now)) × (a .i * a .w ≤ a .j * a .w)
 here c =
     let a = c .args in
-    let h = c .pre in
-    let s : (a .j + 1) * a .w ≡ a .j * a .w + a .w = ap (λ x. x * a .w) (add-one (a .j)) ∙ suc-mul (a .j) (a .w) in
-    (omega (arith, h .3), mul-le-mul-right (a .w) (omega (arith, h .1, h .2)))
+    rows-below (a .i) (a .j) (a .w) (length (a .b .now)) (omega (arith, c .pre .1, c .pre .2)) (c .pre .3)
 
 returns : tie.Need-returns
 returns c =

@@ -1,13 +1,11 @@
 -- `product::merge::join_terms` meets its contract: the joined term goes, or is written. Assumes nothing.
 use Prim.Native.Nat.{_+_, _*_, _≤_, _<_}
-use mathlib.Core.Path.{_≡_, ap, _∙_}
 use native.Mathlib.Omega.{arith}
-use native.Mathlib.Nat.{mul-le-mul-right, suc-mul}
-use native.Mathlib.Numerals.{add-one}
+use native.Mathlib.Nat.{mul-le-mul-right}
 use lib.ListN.{length, getD, length-set}
 use Rattle.field.specs.Xor as X
 use Rattle.field.specs.Xor.{_⊕_}
-use Rattle.buffer.proofs.Lent.Strides.{pos-of-ne}
+use Rattle.buffer.proofs.Lent.Strides.{next-row, pos-of-ne}
 use Rattle.product.proofs.Lent.Merging.{joined-none, joined-some}
 use borrow.Author.Needs.{needs}
 use Rattle.product.proofs.merge.join_terms.Statement.{statement}
@@ -21,7 +19,7 @@ here : (c : tie.Start) →
 here c =
     let a = c .args in
     let h = c .pre in
-    let s : (a .i + 1) * a .w ≡ a .i * a .w + a .w = ap (λ x. x * a .w) (add-one (a .i)) ∙ suc-mul (a .i) (a .w) in
+    let s = next-row (a .i) (a .w) in
     let u : (a .i + 1) * a .w ≤ (a .j + 1) * a .w = mul-le-mul-right (a .w) (omega (arith, h .2)) in
     (omega (arith, h .3), omega (arith, h .0, h .3), omega (arith, h .3))
 

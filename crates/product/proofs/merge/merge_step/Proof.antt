@@ -1,15 +1,15 @@
 -- `product::merge::merge_step` meets its contract: the piece's term, the sum's, or both joined. Assumes nothing.
-use Prim.Native.Nat.{_+_, _*_, _≤_, Ordering·gt, Ordering·eq}
-use mathlib.Core.Path.{_≡_, sym, _∙_}
+use Prim.Native.Nat.{_+_, _*_, _≤_, Ordering·lt, Ordering·gt, Ordering·eq}
+use mathlib.Core.Path.{_≡_}
+use mathlib.Core.Logic.{_≢_}
 use native.Mathlib.Omega.{arith}
 use native.Mathlib.Nat.{mul-le-mul-right}
 use lib.ListN.{length}
 use Rattle.field.specs.Laws.{gf}
-use Rattle.poly.proofs.Laws.Order.{gt≢lt, eq≢lt}
+use Rattle.poly.proofs.Laws.Order.{eq≢lt}
 use Rattle.buffer.proofs.Lent.Strides.{row-count}
 use Rattle.product.specs.Merge.{facing}
-use Rattle.product.proofs.Lent.Merging.{answer-first, answer-second, answer-rest, facing-left}
-use Rattle.product.proofs.Lent.Merging.{step-piece, step-sum, step-both}
+use Rattle.product.proofs.Lent.Merging.{answer-told, facing-left, step-piece, step-sum, step-both}
 use borrow.Author.Needs.{needs}
 use Rattle.product.proofs.merge.merge_step.Statement.{statement}
 use Rattle.product.proofs.merge.merge_step.Tie as tie
@@ -21,23 +21,16 @@ here c =
     let h = c .pre in
     omega (arith, row-count (a .g .piece + 1) (a .w) (h .some), h .fits)
 
--- the sum's term comes first
-sum-first : (c : tie.Then2) →
-    let a = c .before .before .before .before .before .args in
-    facing (a .b .now) (a .w) (a .g .sum) (a .end) (a .g .piece) ≡ Ordering·gt
-sum-first c =
-    let a = c .before .before .before .before .before .args in
-    answer-second (facing (a .b .now) (a .w) (a .g .sum) (a .end) (a .g .piece))
-    (c .before .before .first-of .ensures) (c .if2 .taken)
-
--- both have the same powers
-both-same : (c : tie.Else2) →
-    let a = c .before .before .before .before .before .args in
-    facing (a .b .now) (a .w) (a .g .sum) (a .end) (a .g .piece) ≡ Ordering·eq
-both-same c =
-    let a = c .before .before .before .before .before .args in
-    answer-rest (facing (a .b .now) (a .w) (a .g .sum) (a .end) (a .g .piece))
-    (c .before .before .first-of .ensures) (c .before .if1 .left) (c .if2 .left)
+-- the order that the comparison tells
+told : (c : tie.After-first-of) →
+    let a = c .before .before .before .args in
+    let o = facing (a .b .now) (a .w) (a .g .sum) (a .end) (a .g .piece) in
+    let x = c .first-of .result in
+    (x ≡ 0 → o ≡ Ordering·lt) × (x ≡ 2 → o ≡ Ordering·gt) × (x ≢ 0 → x ≢ 2 → o ≡ Ordering·eq)
+told c =
+    let a = c .before .before .before .args in
+    answer-told (facing (a .b .now) (a .w) (a .g .sum) (a .end) (a .g .piece)) (c .first-of .result)
+    (c .first-of .ensures)
 
 first-of-requires : tie.Need-first-of-requires
 first-of-requires c κs = search needs
@@ -56,13 +49,8 @@ same-length c = search needs
 
 returns : tie.Need-returns
 returns c =
-    let a = c .before .before .before .before .before .before .before .before .args in
-    let f = c .before .before .before .before .before .first-of in
-    let y = c .before .before .before .before .if1 in
-    let t = c .before .before .take-term in
-    λ m last l h.
-    step-piece (gf m) (a .b .now) (t .last .0) (a .w) (a .g .terms) (a .g .sum) (a .end) (a .g .piece) last h l
-    (answer-first (facing (a .b .now) (a .w) (a .g .sum) (a .end) (a .g .piece)) (f .ensures) (y .taken)) (t .ensures)
+    let y = c .before .before .before .before in
+    λ m last l h. step-piece (gf m) h l (told (y .before) .0 (y .if1 .taken)) (c .before .before .take-term .ensures)
 
 take-term-requires-2 : tie.Need-take-term-requires-2
 take-term-requires-2 c κs =
@@ -86,20 +74,18 @@ same-length-2 c = search needs
 
 returns-2 : tie.Need-returns-2
 returns-2 c =
-    let a = c .before .before .before .before .before .before .before .before .before .args in
-    let q = sum-first (c .before .before .before .before) in
-    let t = c .before .before .take-term2 in
+    let y = c .before .before .before .before in
     λ m last l h.
-    step-sum (gf m) (a .b .now) (t .last .0) (a .w) (a .g .terms) (a .g .sum) (a .end) (a .g .piece) last h l
-    (facing-left (a .b .now) (a .w) (a .g .sum) (a .end) (a .g .piece) (λ e. gt≢lt (sym q ∙ e))) q (t .ensures)
+    step-sum (gf m) h l (told (y .before .before) .1 (y .if2 .taken)) (c .before .before .take-term2 .ensures)
 
 join-terms-requires : tie.Need-join-terms-requires
 join-terms-requires c κs =
-    let o = c .before .before .before .before .before .before in
+    let y = c .before in
+    let o = y .before .before .before .before .before in
     let a = o .args in
     let h = o .pre in
-    let l = facing-left (a .b .now) (a .w) (a .g .sum) (a .end) (a .g .piece)
-    (λ e. eq≢lt (sym (both-same (c .before)) ∙ e)) in
+    let l = facing-left (a .b .now) (a .w) (a .g .sum) (a .end) (a .g .piece) Ordering·eq eq≢lt
+    (told (y .before .before) .2 (y .before .if1 .left) (y .if2 .left)) in
     (h .some, h .room, omega (arith, h .piece), h .fits)
 
 add-t25 : tie.Need-add-t25
@@ -115,13 +101,10 @@ same-length-3 c = search needs
 
 returns-3 : tie.Need-returns-3
 returns-3 c =
-    let a = c .before .before .before .before .before .before .before .before .before .args in
-    let q = both-same (c .before .before .before .before) in
-    let t = c .before .before .join-terms in
+    let y = c .before .before .before .before in
     λ m last l h.
-    step-both (gf m) (a .b .now) (t .last .0) (a .w) (a .g .terms) (a .g .sum) (a .end) (a .g .piece) last h l
-    (facing-left (a .b .now) (a .w) (a .g .sum) (a .end) (a .g .piece) (λ e. eq≢lt (sym q ∙ e))) q (t .result)
-    (t .ensures)
+    step-both (gf m) h l (told (y .before .before) .2 (y .before .if1 .left) (y .if2 .left))
+    (c .before .before .join-terms .ensures)
 
 pub merge-step-spec : {M : Type 1} → statement M
 merge-step-spec =

@@ -1,10 +1,8 @@
 -- `product::merge::take_term` meets its contract. Assumes nothing.
 use Prim.Native.Nat.{_+_, _*_, _≤_}
-use mathlib.Core.Path.{_≡_, ap, _∙_}
 use native.Mathlib.Omega.{arith}
-use native.Mathlib.Nat.{mul-le-mul-right, suc-mul}
-use native.Mathlib.Numerals.{add-one}
 use lib.ListN.{length}
+use Rattle.buffer.proofs.Lent.Strides.{rows-below}
 use Rattle.product.proofs.Lent.Merging.{taken}
 use borrow.Author.Needs.{needs}
 use Rattle.product.proofs.merge.take_term.Statement.{statement}
@@ -16,9 +14,7 @@ here : (c : tie.Start) →
     (a .i * a .w + a .w ≤ length (a .b .now)) × (a .k * a .w ≤ a .i * a .w)
 here c =
     let a = c .args in
-    let h = c .pre in
-    let s : (a .i + 1) * a .w ≡ a .i * a .w + a .w = ap (λ x. x * a .w) (add-one (a .i)) ∙ suc-mul (a .i) (a .w) in
-    (omega (arith, h .2), mul-le-mul-right (a .w) (h .1))
+    rows-below (a .k) (a .i) (a .w) (length (a .b .now)) (c .pre .1) (c .pre .2)
 
 mul-at : tie.Need-mul-at
 mul-at c = search needs

@@ -1,7 +1,7 @@
 -- `product::product::add_piece` meets its contract: the piece is inserted, or merged. Assumes nothing.
 use Prim.Native.Nat.{_+_, _*_, _≤_}
 use native.Mathlib.Omega.{arith}
-use lib.ListN.{length, getD, drop}
+use lib.ListN.{length}
 use Rattle.field.proofs.Laws.Ring.{ring}
 use Rattle.product.proofs.Lent.Pieces.{piece-count, piece-inserted, piece-asks, piece-merges, piece-merged}
 use borrow.Author.Needs.{needs}
@@ -13,10 +13,7 @@ here : (c : tie.Start) →
     let a = c .args in
     let w = length (a .t .now) in
     (a .n + a .c ≤ length (a .b .now)) × (a .n * w ≤ (a .n + a .c) * w) × ((a .n + a .c) * w ≤ length (a .b .now))
-here c =
-    let a = c .args in
-    piece-count (a .m) (a .b .now) (a .n) (getD (a .f .now) 0 0) (drop 1 (a .f .now)) (a .src .now) (a .c)
-    (a .t .now) (c .pre .1)
+here c = piece-count (c .pre)
 
 add-at : tie.Need-add-at
 add-at c = omega (arith, here (c .before .before .before .before))
@@ -42,10 +39,7 @@ same-length-2 c = search needs
 returns : tie.Need-returns
 returns c =
     let o = c .before .before .before .before .before .before .before .before .before .before .before .before in
-    let a = o .args in
-    let p = c .before .before .before .before .product-row in
-    piece-inserted (a .m) (a .b .now) (a .n) (getD (a .f .now) 0 0) (drop 1 (a .f .now)) (a .src .now) (a .c)
-    (a .t .now) (o .pre .1) (p .last .1 .0) (p .result) (p .ensures)
+    piece-inserted (o .pre) (o .args .m) (c .before .before .before .before .product-row .ensures)
 
 mul-to : tie.Need-mul-to
 mul-to c = search needs
@@ -63,13 +57,7 @@ part-product-row-end : tie.Need-part-product-row-end
 part-product-row-end c = search needs
 
 product-row-requires-2 : tie.Need-product-row-requires-2
-product-row-requires-2 c κs =
-    let o = c .before .before .before .before .before .before .before in
-    let a = o .args in (
-      o .pre .0,
-      piece-asks (a .m) (a .b .now) (a .n) (getD (a .f .now) 0 0) (drop 1 (a .f .now)) (a .src .now) (a .c) (a .t .now)
-          (o .pre .1) (omega arith),
-    )
+product-row-requires-2 c κs = piece-asks (c .before .before .before .before .before .before .before .pre) (omega arith)
 
 add-merge-terms : tie.Need-add-merge-terms
 add-merge-terms c =
@@ -81,11 +69,9 @@ add-merge-terms c =
 
 merge-terms-requires : tie.Need-merge-terms-requires
 merge-terms-requires c κs =
-    let o = c .before .before .before .before .before .before .before .before .before .before .before .before .before in
-    let a = o .args in
-    let p = c .before .before .before .before .before .product-row2 in
-    piece-merges (a .m) (a .b .now) (a .n) (getD (a .f .now) 0 0) (drop 1 (a .f .now)) (a .src .now) (a .c)
-    (a .t .now) (o .pre .1) (omega arith) (p .last .1 .0) (p .result) (p .ensures)
+    let p = c .before .before .before .before .before in
+    let o = p .before .before .before .before .before .before .before .before in
+    piece-merges (o .pre) (omega arith) (o .args .m) (p .product-row2 .ensures)
 
 same-length-3 : tie.Need-same-length-3
 same-length-3 c = search needs
@@ -97,12 +83,9 @@ returns-2 : tie.Need-returns-2
 returns-2 c =
     let e = c .before .before .before .before .before .before .before .before in
     let o = e .before .before .before .before .before .before .before .before in
-    let a = o .args in
-    let p = e .product-row2 in
     let g = c .before .before .merge-terms in
-    piece-merged (a .m) (a .b .now) (a .n) (getD (a .f .now) 0 0) (drop 1 (a .f .now)) (a .src .now) (a .c)
-    (a .t .now) (o .pre .1) (omega arith) (p .last .1 .0) (p .result) (p .ensures)
-    (ring (a .m) (omega arith)) (g .last .0) (g .result) (g .ensures)
+    piece-merged (o .pre) (omega arith) (o .args .m) (e .product-row2 .ensures) (ring (o .args .m) (omega arith))
+    (g .last .0) (g .result) (g .ensures)
 
 pub add-piece-spec : {M : Type 1} → statement M
 add-piece-spec =

@@ -1,16 +1,16 @@
 -- `product::product::add_row` meets its contract. The invariant: `InSum`. Assumes nothing.
-use mathlib.Core.Path.{_≡_, sym, _∙_}
+use mathlib.Core.Path.{_≡_}
 use Prim.Native.Nat.{_+_, _*_, _-_, _≤_}
 use native.Mathlib.Omega.{arith}
-use lib.ListN.{length, getD, drop}
+use lib.ListN.{length}
 use Rattle.product.proofs.Lent.Sums.{InSum, sum-start, sum-done, sum-room, sum-places, sum-asks, sum-more}
+use Rattle.product.proofs.Lent.Products.{row-wide}
 use borrow.Author.Needs.{needs}
 use Rattle.product.proofs.product.add_row.Statement.{statement}
 use Rattle.product.proofs.product.add_row.Tie as tie
 
 abbrev Inv-loop : tie.InvT-loop
-Inv-loop m b₀ r f src k t₀ w n₀ j₀ b t n j =
-    (length f ≡ length t₀) × InSum m b₀ r (getD f 0 0) (drop 1 f) src k t₀ b t n j
+Inv-loop m b₀ r f src k t₀ w n₀ j₀ b t n j = InSum m b₀ r f src k (length t₀) b t n j
 
 abbrev μ-loop : tie.MeasureT-loop
 μ-loop m b₀ r f src k t₀ w n₀ j₀ b t n j = j
@@ -19,11 +19,7 @@ abbrev μ-loop : tie.MeasureT-loop
 room : (c : tie.In-loop Inv-loop μ-loop) →
     let a = c .before .before .before .before .before .before .args in
     c .before .loop .n * length (a .t .now) ≤ length (c .before .loop .b)
-room c =
-    let l = c .before .loop in
-    let a = c .before .before .before .before .before .before .args in
-    sum-room (a .m) (a .b .now) (a .r) (getD (a .f .now) 0 0) (drop 1 (a .f .now)) (a .src .now) (a .k) (a .t .now)
-    (l .b) (l .t) (l .n) (l .rest) (l .inv .1)
+room c = sum-room (c .before .loop .inv)
 
 -- the place of the next piece
 here : (c : tie.After-piece-size Inv-loop μ-loop) →
@@ -32,20 +28,10 @@ here : (c : tie.After-piece-size Inv-loop μ-loop) →
     let w = length (a .t .now) in
     let d = c .piece-size .result in
     ((l .rest - d) * w + d * w ≡ l .rest * w) × ((l .rest - d) * w + d * w ≤ length (a .src .now))
-here c =
-    let l = c .before .before .loop in
-    let a = c .before .before .before .before .before .before .before .args in
-    sum-places (a .m) (a .b .now) (a .r) (getD (a .f .now) 0 0) (drop 1 (a .f .now)) (a .src .now) (a .k) (a .t .now)
-    (l .b) (l .t) (l .n) (l .rest) (l .inv .1) (c .piece-size .result) (c .piece-size .ensures .1)
+here c = sum-places (c .before .before .loop .inv) (c .piece-size .ensures .1)
 
 loop-holds : tie.Need-loop-holds Inv-loop μ-loop
-loop-holds c =
-    let a = c .before .before .before .before .args in
-    let r′ = c .before .before .before .before .pre in (
-      r′ .0,
-      sum-start (a .m) (a .b .now) (a .r) (getD (a .f .now) 0 0) (drop 1 (a .f .now)) (a .src .now) (a .k)
-          (a .t .now) (r′ .1),
-    )
+loop-holds c = sum-start (c .before .before .before .before .pre)
 
 mul-piece-size : tie.Need-mul-piece-size Inv-loop μ-loop
 mul-piece-size c = omega (arith, room c)
@@ -56,7 +42,7 @@ sub-piece-size c = omega (arith, room c)
 piece-size-requires : tie.Need-piece-size-requires Inv-loop μ-loop
 piece-size-requires c κs =
     let l = c .before .loop in
-    omega (arith, l .inv .1 .asked .row .some)
+    omega (arith, row-wide (l .inv .asked .row))
 
 sub-rest : tie.Need-sub-rest Inv-loop μ-loop
 sub-rest c = search needs
@@ -81,42 +67,25 @@ part-add-piece-end c = omega (arith, here (c .before))
 
 add-piece-requires : tie.Need-add-piece-requires Inv-loop μ-loop
 add-piece-requires c κs =
-    let l = c .before .before .before .before .before .loop in
-    let a = c .before .before .before .before .before .before .before .before .before .before .args in
-    let d = c .before .before .before .piece-size in (
-      l .inv .0 ∙ sym (l .inv .1 .spare),
-      sum-asks (a .m) (a .b .now) (a .r) (getD (a .f .now) 0 0) (drop 1 (a .f .now)) (a .src .now) (a .k) (a .t .now)
-          (l .b) (l .t) (l .n) (l .rest) (l .inv .1) (d .result) (d .ensures .1),
-    )
+    sum-asks (c .before .before .before .before .before .loop .inv) (c .before .before .before .piece-size .ensures .1)
 
 loop-less : tie.Need-loop-less Inv-loop μ-loop
 loop-less c = search needs
 
 loop-again : tie.Need-loop-again Inv-loop μ-loop
 loop-again c =
-    let o = c .before .before .before .before .before .before .before .before .before .before in
-    let l = o .loop in
-    let a = o .before .before .before .before .before .args in
-    let d = c .before .before .before .before .before .before .before .before .piece-size in
-    let p = c .before .before .before .before .add-piece in (
-      l .inv .0,
-      sum-more (a .m) (a .b .now) (a .r) (getD (a .f .now) 0 0) (drop 1 (a .f .now)) (a .src .now) (a .k) (a .t .now)
-          (l .b) (l .t) (l .n) (l .rest) (l .inv .1) (d .result) (d .ensures .1)
-          (p .last .1 .0) (p .last .1 .1 .1 .1 .1 .1 .0) (p .result) (c .before .t .given) (p .ensures),
-    )
+    let d = c .before .before .before .before .before .before .before .before in
+    sum-more (d .before .before .loop .inv) (d .piece-size .ensures .1) (c .before .t .given)
+    (c .before .before .before .before .add-piece .ensures)
 
 same-length : tie.Need-same-length Inv-loop μ-loop
-same-length c = c .before .loop .inv .1 .holds .size
+same-length c = c .before .loop .inv .holds .size
 
 same-length-2 : tie.Need-same-length-2 Inv-loop μ-loop
-same-length-2 c = c .before .loop .inv .1 .spare
+same-length-2 c = c .before .loop .inv .spare
 
 returns : tie.Need-returns Inv-loop μ-loop
-returns c =
-    let l = c .before .loop in
-    let a = c .before .before .before .before .before .before .args in
-    sum-done (a .m) (a .b .now) (a .r) (getD (a .f .now) 0 0) (drop 1 (a .f .now)) (a .src .now) (a .k) (a .t .now)
-    (l .b) (l .t) (l .n) (l .rest) (omega arith) (l .inv .1)
+returns c = sum-done (c .before .loop .inv) (omega arith)
 
 pub add-row-spec : {M : Type 1} → statement M
 add-row-spec =

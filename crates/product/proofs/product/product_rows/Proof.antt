@@ -18,20 +18,13 @@ abbrev μ-loop : tie.MeasureT-loop
 here : (c : tie.In-loop Inv-loop μ-loop) →
     let a = c .before .before .before .before .before .before .args in
     Back (c .before .loop .j) (length (a .t .now)) (c .before .loop .at) (length (a .p .now))
-here c =
-    let l = c .before .loop in
-    let a = c .before .before .before .before .before .before .args in
-    product-back (a .m) (a .b .now) (a .p .now) (a .i) (a .q .now) (a .k) (a .t .now) (l .b) (l .t)
-    (l .n) (l .j) (l .at) (omega arith) (l .inv)
+here c = product-back (c .before .loop .inv) (omega arith)
 
 mul-at : tie.Need-mul-at Inv-loop μ-loop
 mul-at c = omega (arith, c .before .before .before .before .pre .left)
 
 loop-holds : tie.Need-loop-holds Inv-loop μ-loop
-loop-holds c =
-    let a = c .before .before .before .before .args in
-    let r = c .before .before .before .before .pre in
-    product-start (a .m) (a .b .now) (a .p .now) (a .i) (a .q .now) (a .k) (a .t .now) r
+loop-holds c = product-start (c .before .before .before .before .pre)
 
 sub-j : tie.Need-sub-j Inv-loop μ-loop
 sub-j c = search needs
@@ -52,25 +45,15 @@ part-add-row-end : tie.Need-part-add-row-end Inv-loop μ-loop
 part-add-row-end c = omega (arith, here (c .before))
 
 add-row-requires : tie.Need-add-row-requires Inv-loop μ-loop
-add-row-requires c κs =
-    let l = c .before .before .before .before .loop in
-    let a = c .before .before .before .before .before .before .before .before .before .args in
-    product-asks (a .m) (a .b .now) (a .p .now) (a .i) (a .q .now) (a .k) (a .t .now) (l .b) (l .t) (l .n) (l .j)
-    (l .at) (omega arith) (l .inv)
+add-row-requires c κs = product-asks (c .before .before .before .before .loop .inv) (omega arith)
 
 loop-less : tie.Need-loop-less Inv-loop μ-loop
 loop-less c = search needs
 
 loop-again : tie.Need-loop-again Inv-loop μ-loop
 loop-again c =
-    let o = c .before .before .before .before .before .before .before .before .before .before in
     let l = c .before .before .before .before .before .before .before .before .before .loop in
-    let a = o .before .before .before .before .args in
-    let p′ = c .before .before .before .before .add-row in
-    let t′ = c .before .t in
-    product-more (a .m) (a .b .now) (a .p .now) (a .i) (a .q .now) (a .k) (a .t .now) (l .b) (l .t) (l .n) (l .j)
-    (l .at) (omega arith) (l .inv)
-    (p′ .last .1 .0) (p′ .last .1 .1 .1 .1 .1 .1 .0) (p′ .result) (t′ .given) (p′ .ensures)
+    product-more (l .inv) (omega arith) (c .before .t .given) (c .before .before .before .before .add-row .ensures)
 
 same-length : tie.Need-same-length Inv-loop μ-loop
 same-length c = c .before .loop .inv .holds .size
@@ -79,11 +62,7 @@ same-length-2 : tie.Need-same-length-2 Inv-loop μ-loop
 same-length-2 c = c .before .loop .inv .spare
 
 returns : tie.Need-returns Inv-loop μ-loop
-returns c =
-    let l = c .before .loop in
-    let a = c .before .before .before .before .before .before .args in
-    product-done (a .m) (a .b .now) (a .p .now) (a .i) (a .q .now) (a .k) (a .t .now) (l .b) (l .t) (l .n) (l .j)
-    (l .at) (omega arith) (l .inv)
+returns c = product-done (c .before .loop .inv) (omega arith)
 
 pub product-rows-spec : {M : Type 1} → statement M
 product-rows-spec =

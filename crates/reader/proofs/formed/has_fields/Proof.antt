@@ -1,11 +1,17 @@
 -- Every field of the record was read, or one was not. Assumes nothing.
 use mathlib.Core.Bool.{_&&_}
-use mathlib.Core.Path.{ap, sym, _∙_}
+use mathlib.Core.Path.{_≡_, ap, sym, _∙_}
+use Rattle.grammar.specs.declared.record.Rec.{Rec}
 use Rattle.grammar.specs.Line.{piecesIn}
 use Rattle.reader.specs.Handed.{hasFields}
 use borrow.Author.Needs.{needs}
 use Rattle.reader.proofs.formed.has_fields.Statement.{statement}
 use Rattle.reader.proofs.formed.has_fields.Tie as tie
+
+-- the case q of the record tells which fields there are
+told : (c : tie.Start) {q : Rec} → c .args .r ≡ q
+    → let ps = piecesIn (c .args .s .now) (c .args .l) in hasFields ps q ≡ hasFields ps (c .args .r)
+told c e = ap (hasFields (piecesIn (c .args .s .now) (c .args .l))) (sym e)
 
 enum-told : tie.Need-enum-told
 enum-told c = search needs
@@ -28,12 +34,6 @@ has-number-requires-2 c κs = search needs
 has-columns-requires : tie.Need-has-columns-requires
 has-columns-requires c κs = search needs
 
-both-requires : tie.Need-both-requires
-both-requires c κs = search needs
-
-both-requires-2 : tie.Need-both-requires-2
-both-requires-2 c κs = search needs
-
 enum-known-r-3 : tie.Need-enum-known-r-3
 enum-known-r-3 c = search needs
 
@@ -52,9 +52,6 @@ has-name-requires-3 c κs = search needs
 has-form-requires : tie.Need-has-form-requires
 has-form-requires c κs = search needs
 
-both-requires-3 : tie.Need-both-requires-3
-both-requires-3 c κs = search needs
-
 enum-known-r-5 : tie.Need-enum-known-r-5
 enum-known-r-5 c = search needs
 
@@ -63,9 +60,6 @@ has-name-requires-4 c κs = search needs
 
 has-formula-requires : tie.Need-has-formula-requires
 has-formula-requires c κs = search needs
-
-both-requires-4 : tie.Need-both-requires-4
-both-requires-4 c κs = search needs
 
 enum-known-r-6 : tie.Need-enum-known-r-6
 enum-known-r-6 c = search needs
@@ -90,12 +84,8 @@ returns-2 c = search needs
 
 returns-3 : tie.Need-returns-3
 returns-3 c =
-    let d = c .before .before .before .before .before .before .before .before .before in
-    c .both2 .ensures
-    ∙ (λ i. c .before .before .before .before .has-name .ensures i && (c .before .both .ensures
-    ∙ (λ j. c .before .before .before .has-number2 .ensures j && c .before .before .has-columns .ensures j)) i)
-    ∙ ap (hasFields (piecesIn (d .args .s .now) (d .args .l)))
-    (sym (c .before .before .before .before .before .before .r2 .given .1))
+    (λ i. c .before .before .has-name .ensures i && (c .before .has-number2 .ensures i && c .has-columns .ensures i))
+    ∙ told (c .before .before .before .before .before .before .before) (c .before .before .before .before .r2 .given .1)
 
 returns-4 : tie.Need-returns-4
 returns-4 c = search needs
@@ -105,15 +95,13 @@ returns-5 c = search needs
 
 returns-6 : tie.Need-returns-6
 returns-6 c =
-    let d = c .before .before .before .before .before .before .before in
-    c .both3 .ensures ∙ (λ i. c .before .before .has-name3 .ensures i && c .before .has-form .ensures i)
-    ∙ ap (hasFields (piecesIn (d .args .s .now) (d .args .l))) (sym (c .before .before .before .before .r4 .given .1))
+    (λ i. c .before .has-name3 .ensures i && c .has-form .ensures i)
+    ∙ told (c .before .before .before .before .before .before) (c .before .before .before .r4 .given .1)
 
 returns-7 : tie.Need-returns-7
 returns-7 c =
-    let d = c .before .before .before .before .before .before .before in
-    c .both4 .ensures ∙ (λ i. c .before .before .has-name4 .ensures i && c .before .has-formula .ensures i)
-    ∙ ap (hasFields (piecesIn (d .args .s .now) (d .args .l))) (sym (c .before .before .before .before .r5 .given .1))
+    (λ i. c .before .has-name4 .ensures i && c .has-formula .ensures i)
+    ∙ told (c .before .before .before .before .before .before) (c .before .before .before .r5 .given .1)
 
 returns-8 : tie.Need-returns-8
 returns-8 c = search needs
@@ -123,9 +111,7 @@ returns-9 c = search needs
 
 returns-10 : tie.Need-returns-10
 returns-10 c =
-    let d = c .before .before .before .before in
-    c .has-outputs .ensures
-    ∙ ap (hasFields (piecesIn (d .args .s .now) (d .args .l))) (sym (c .before .enum-told4 .given .1))
+    c .has-outputs .ensures ∙ told (c .before .before .before .before) (c .before .enum-told4 .given .1)
 
 pub has-fields-spec : {M : Type 1} → statement M
 has-fields-spec =
@@ -138,19 +124,15 @@ has-fields-spec =
     has-name-requires
     has-number-requires-2
     has-columns-requires
-    both-requires
-    both-requires-2
     enum-known-r-3
     has-name-requires-2
     enum-told-2
     enum-known-r-4
     has-name-requires-3
     has-form-requires
-    both-requires-3
     enum-known-r-5
     has-name-requires-4
     has-formula-requires
-    both-requires-4
     enum-known-r-6
     has-name-requires-5
     enum-told-3

@@ -21,9 +21,6 @@ has-term-requires-2 c κs = search needs
 has-term-requires-3 : tie.Need-has-term-requires-3
 has-term-requires-3 c κs = search needs
 
-both-requires : tie.Need-both-requires
-both-requires c κs = search needs
-
 enum-known-f-3 : tie.Need-enum-known-f-3
 enum-known-f-3 c = search needs
 
@@ -33,9 +30,6 @@ has-name-requires c κs = search needs
 has-term-requires-4 : tie.Need-has-term-requires-4
 has-term-requires-4 c κs = search needs
 
-both-requires-2 : tie.Need-both-requires-2
-both-requires-2 c κs = search needs
-
 enum-told : tie.Need-enum-told
 enum-told c = search needs
 
@@ -43,12 +37,14 @@ returns : tie.Need-returns
 returns c = search needs
 
 returns-2 : tie.Need-returns-2
-returns-2 c = c .both .ensures ∙ (λ i. c .before .before .has-term2 .ensures i && c .before .has-term3 .ensures i)
-    ∙ ap hasForm (sym (c .before .before .before .before .f2 .given .1))
+returns-2 c =
+    (λ i. c .before .has-term2 .ensures i && c .has-term3 .ensures i)
+    ∙ ap hasForm (sym (c .before .before .before .f2 .given .1))
 
 returns-3 : tie.Need-returns-3
-returns-3 c = c .both2 .ensures ∙ (λ i. c .before .before .has-name .ensures i && c .before .has-term4 .ensures i)
-    ∙ ap hasForm (sym (c .before .before .before .before .f3 .given .1))
+returns-3 c =
+    (λ i. c .before .has-name .ensures i && c .has-term4 .ensures i)
+    ∙ ap hasForm (sym (c .before .before .before .f3 .given .1))
 
 returns-4 : tie.Need-returns-4
 returns-4 c = search needs
@@ -62,11 +58,9 @@ has-form-spec =
     enum-known-f-2
     has-term-requires-2
     has-term-requires-3
-    both-requires
     enum-known-f-3
     has-name-requires
     has-term-requires-4
-    both-requires-2
     enum-told
     returns
     returns-2

@@ -1,12 +1,22 @@
 -- The line ahead says which place is behind it. Assumes nothing.
 use native.Mathlib.Omega.{arith}
-use mathlib.Core.Path.{sym, _∙_}
-use Rattle.reader.specs.Reader.{lastGiven}
+use mathlib.Core.Path.{_≡_, sym, _∙_}
+use Rattle.reader.specs.declared.cursor.Ahead.{Ahead}
+use Rattle.reader.specs.Reader.{lastGiven, aheadGiven, behindOf, placeBehind}
 use Rattle.reader.proofs.Laws.Ahead.{look-unended}
 use Rattle.reader.proofs.Laws.Handed.{placed-in, behind-line, behind-told}
 use borrow.Author.Needs.{needs}
 use Rattle.reader.proofs.handed.behind.Statement.{statement}
 use Rattle.reader.proofs.handed.behind.Tie as tie
+
+-- the answer x of `look` tells the place behind what is handed out
+told : (c : tie.After-look) {x : Ahead} → c .look .result ≡ x
+    → let a = c .before .before .before .args in let p = c .before .placed .result in
+    behindOf p (aheadGiven (a .s .now) p x) ≡ placeBehind (a .s .now) (a .at) (a .line)
+told c e =
+    let a = c .before .before .before .args in
+    let P = c .before .placed in
+    behind-told (a .s .now) (a .at) (a .line) (P .result) (P .ensures) (sym e ∙ c .look .ensures)
 
 placed-requires : tie.Need-placed-requires
 placed-requires c κs = search needs
@@ -39,26 +49,16 @@ enum-told c = search needs
 
 returns : tie.Need-returns
 returns c =
-    let d = c .before .before .before .before .before .before in
-    let s = d .args .s .now in
-    let P = c .before .before .before .before .placed in
-    let a = sym (c .before .l .given .1) ∙ c .before .before .before .look .ensures in
-    sym (behind-line s (P .result) _ _) ∙ behind-told s (d .args .at) (d .args .line) (P .result) (P .ensures) a
+    let b = c .before .before .before in
+    sym (behind-line (b .before .before .before .args .s .now) (b .before .placed .result) _ _)
+    ∙ told b (c .before .l .given .1)
 
 returns-2 : tie.Need-returns-2
 unfolding lastGiven
-returns-2 c =
-    let d = c .before .before .before .before .before .before .before in
-    let P = c .before .before .before .before .before .placed in
-    let a = sym (c .before .before .l2 .given .1) ∙ c .before .before .before .before .look .ensures in
-    behind-told (d .args .s .now) (d .args .at) (d .args .line) (P .result) (P .ensures) a
+returns-2 c = told (c .before .before .before .before) (c .before .before .l2 .given .1)
 
 returns-3 : tie.Need-returns-3
-returns-3 c =
-    let d = c .before .before .before .before .before in
-    let P = c .before .before .before .placed in
-    let a = sym (c .enum-told .given .1) ∙ c .before .before .look .ensures in
-    behind-told (d .args .s .now) (d .args .at) (d .args .line) (P .result) (P .ensures) a
+returns-3 c = told (c .before .before) (c .enum-told .given .1)
 
 pub behind-spec : {M : Type 1} → statement M
 behind-spec =

@@ -1,13 +1,16 @@
 -- `search::put::put_step` meets its contract: the group goes on, ends at zero, or is written. Assumes nothing.
-use mathlib.Core.Path.{sym, _∙_}
+use mathlib.Core.Path.{_≡_, sym, _∙_}
 use native.Mathlib.Omega.{arith}
 use native.Mathlib.Nat.{mul-le-mul-right}
-use Prim.Native.Nat.{ℕ, suc, _+_, _*_, _≤_, _<_}
-use lib.ListN.{length, getD}
+use Prim.Native.Nat.{ℕ, suc, _+_, _*_, _-_, _≤_, _<_}
+use lib.ListN.{length, getD, take, drop}
+use Rattle.field.specs.Field.{power, times}
+use Rattle.field.specs.Maps.{listOf}
 use Rattle.field.specs.Xor as X
 use Rattle.field.specs.Xor.{_⊕_}
 use Rattle.buffer.proofs.Lent.Strides.{row-end, pos-of-ne}
-use Rattle.search.proofs.Lent.Passing.{table-at, sum-here, step-on, step-none, step-write}
+use Rattle.search.proofs.Lent.Groups.{gathered}
+use Rattle.search.proofs.Lent.Passing.{sum-here, step-on, step-none, step-write}
 use borrow.Author.Needs.{needs}
 use Rattle.search.proofs.put.put_step.Statement.{statement}
 use Rattle.search.proofs.put.put_step.Tie as tie
@@ -19,6 +22,19 @@ here c =
     let a = c .args in
     let h = c .pre in
     (h .inside, omega (arith, row-end (a .j) (a .k) (a .w) (h .next), h .source))
+
+-- the sum with the value of term j, by the table of the powers of x
+sum-now : (c : tie.After-times) →
+    let a = c .before .before .before .before .before .args in
+    (x : ℕ) → a .table .now ≡ listOf 256 (power (times (a .m)) x)
+    → a .g .sum ⊕ c .times .result ≡ gathered (a .m) (a .i) x (a .g .sum) (getD (a .b .now) (a .j * a .w) 0)
+    (take (a .w - 1) (drop (suc (a .j * a .w)) (a .b .now)))
+sum-now c x t =
+    let a = c .before .before .before .before .before .args in
+    let z = c .before .before .before .slice-known2 in
+    sum-here (a .m) (a .b .now) (a .k) (a .w) (a .i) x (a .j) (a .g .terms) (a .g .sum)
+    (c .before .before .before .before .before .pre) (a .table .now) (c .times .result) t
+    (omega (arith, z .given (a .j * a .w + 1 + a .i))) (c .times .ensures)
 
 mul-at : tie.Need-mul-at
 mul-at c = omega (arith, here (c .before))
@@ -57,19 +73,12 @@ same-length c = search needs
 returns : tie.Need-returns
 unfolding X._⊕_
 returns c =
-    let a = c .before .before .before .before .before .before .before .before .before .args in
-    let h = c .before .before .before .before .before .before .before .before .before .pre in
-    let z = c .before .before .before .before .before .before .before .slice-known2 in
-    let x′ = c .before .before .before .before .times in
-    let s = c .before .same-group in
+    let e = c .before .before .before .before in
+    let a = e .before .before .before .before .before .args in
+    let h = e .before .before .before .before .before .pre in
     λ x t.
-    let e : ℕ = getD (a .b .now) (a .j * a .w + 1 + a .i) 0 in
-    let l : e < 256 = omega (arith, z .given (a .j * a .w + 1 + a .i)) in
-    step-on (a .m) (a .b .now) (a .k) (a .w) (a .i) x (a .j) (a .g .terms) (a .g .sum) h (a .g .sum ⊕ x′ .result)
-    (sum-here (a .m) (a .b .now) (a .k) (a .w) (a .i) x (a .j) (a .g .terms) (a .g .sum) h (x′ .result)
-    (getD (a .table .now) e 0)
-    (x′ .ensures) (table-at (a .m) x (a .table .now) e t l))
-    (sym (c .if1 .taken) ∙ s .ensures)
+    step-on (a .m) (a .b .now) (a .k) (a .w) (a .i) x (a .j) (a .g .terms) (a .g .sum) h
+    (a .g .sum ⊕ e .times .result) (sum-now e x t) (sym (c .if1 .taken) ∙ c .before .same-group .ensures)
 
 same-length-2 : tie.Need-same-length-2
 same-length-2 c = search needs
@@ -77,20 +86,13 @@ same-length-2 c = search needs
 returns-2 : tie.Need-returns-2
 unfolding X._⊕_
 returns-2 c =
-    let a = c .before .before .before .before .before .before .before .before .before .before .args in
-    let h = c .before .before .before .before .before .before .before .before .before .before .pre in
-    let z = c .before .before .before .before .before .before .before .before .slice-known2 in
-    let x′ = c .before .before .before .before .before .times in
-    let s = c .before .before .same-group in
-    let y1 = c .before .if1 in
+    let e = c .before .before .before .before .before in
+    let a = e .before .before .before .before .before .args in
+    let h = e .before .before .before .before .before .pre in
     λ x t.
-    let e : ℕ = getD (a .b .now) (a .j * a .w + 1 + a .i) 0 in
-    let l : e < 256 = omega (arith, z .given (a .j * a .w + 1 + a .i)) in
-    step-none (a .m) (a .b .now) (a .k) (a .w) (a .i) x (a .j) (a .g .terms) (a .g .sum) h (a .g .sum ⊕ x′ .result)
-    (sum-here (a .m) (a .b .now) (a .k) (a .w) (a .i) x (a .j) (a .g .terms) (a .g .sum) h (x′ .result)
-    (getD (a .table .now) e 0)
-    (x′ .ensures) (table-at (a .m) x (a .table .now) e t l))
-    (sym (y1 .left) ∙ s .ensures) (c .if2 .taken)
+    step-none (a .m) (a .b .now) (a .k) (a .w) (a .i) x (a .j) (a .g .terms) (a .g .sum) h
+    (a .g .sum ⊕ e .times .result) (sum-now e x t) (sym (c .before .if1 .left) ∙ c .before .before .same-group .ensures)
+    (c .if2 .taken)
 
 mul-write-group : tie.Need-mul-write-group
 mul-write-group c =
@@ -113,23 +115,15 @@ same-length-3 c = search needs
 returns-3 : tie.Need-returns-3
 unfolding X._⊕_
 returns-3 c =
-    let o = c .before .before .before .before .before .before .before .before .before .before in
-    let a = o .before .before .before .before .before .before .args in
-    let h = o .before .before .before .before .before .before .pre in
-    let z = o .before .before .before .before .slice-known2 in
-    let x′ = c .before .before .before .before .before .before .before .before .before .before .before .times in
-    let s = c .before .before .before .before .before .before .before .before .same-group in
-    let y1 = c .before .before .before .before .before .before .before .if1 in
-    let y2 = c .before .before .before .before .before .before .if2 in
+    let o = c .before .before .before .before .before .before in
+    let e = o .before .before .before .before .before in
+    let a = e .before .before .before .before .before .args in
+    let h = e .before .before .before .before .before .pre in
     let g′ = c .before .before .before .write-group in
     λ x t.
-    let e : ℕ = getD (a .b .now) (a .j * a .w + 1 + a .i) 0 in
-    let l : e < 256 = omega (arith, z .given (a .j * a .w + 1 + a .i)) in
-    step-write (a .m) (a .b .now) (a .k) (a .w) (a .i) x (a .j) (a .g .terms) (a .g .sum) h (a .g .sum ⊕ x′ .result)
-    (sum-here (a .m) (a .b .now) (a .k) (a .w) (a .i) x (a .j) (a .g .terms) (a .g .sum) h (x′ .result)
-    (getD (a .table .now) e 0)
-    (x′ .ensures) (table-at (a .m) x (a .table .now) e t l))
-    (g′ .last .0) (sym (y1 .left) ∙ s .ensures) (pos-of-ne _ (y2 .left)) (g′ .ensures)
+    step-write (a .m) (a .b .now) (a .k) (a .w) (a .i) x (a .j) (a .g .terms) (a .g .sum) h
+    (a .g .sum ⊕ e .times .result) (sum-now e x t) (g′ .last .0)
+    (sym (o .before .if1 .left) ∙ o .before .before .same-group .ensures) (pos-of-ne _ (o .if2 .left)) (g′ .ensures)
 
 pub put-step-spec : {M : Type 1} → statement M
 put-step-spec =

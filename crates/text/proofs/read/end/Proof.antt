@@ -1,7 +1,7 @@
 -- The stage says whether output has stood. Assumes nothing.
 use borrow.Author.Tests.{eq-eqb, ne-eqb}
 use Rattle.text.specs.Routine.{routineOf, mapsOf, originOf, maskedOf, outputsOf}
-use Rattle.text.specs.Known.{arrays, kept, stateIn}
+use Rattle.lines.specs.Known.{arrays, kept, stateIn}
 use Rattle.rules.specs.Read.{refused, accepted, routine}
 use Rattle.text.specs.Reading.{readingOf}
 use Prim.Native.Nat.{_+_}

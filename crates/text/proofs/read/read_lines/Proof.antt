@@ -1,21 +1,25 @@
 -- The reading is that of the lines left, from what is held; a record's statements are stored up to i. Assumes nothing.
 use Rattle.grammar.specs.declared.line.Line.{Line}
 use Rattle.reader.specs.declared.cursor.Cursor.{Cursor}
+use Rattle.reader.specs.declared.cursor.Ahead.{Ahead}
+use Rattle.reader.specs.Cursor.{lookAt}
+use Rattle.text.specs.Reading.{ReadingIs}
 use Rattle.tokens.specs.Ascii.{lineFeed}
 use Rattle.tokens.specs.Split.{pieces}
 use Rattle.reader.proofs.Laws.Ahead.{look-line, end-ge}
-use Rattle.text.specs.Lets.{setAll}
-use Rattle.text.specs.Given.{givenCount, givenFrom, mostCodes}
-use Rattle.text.specs.Known.{arrays, Kept, kept, stateIn, Sound, Sized}
+use Rattle.lines.specs.Lets.{setAll}
+use Rattle.lines.specs.Given.{givenCount, givenFrom, mostCodes}
+use Rattle.lines.specs.Known.{arrays, Kept, kept, stateIn, Sound, Sized}
 use Rattle.rules.specs.Limits.{mostStatements}
 use Rattle.rules.specs.State.{State, start}
 use Rattle.rules.specs.Read.{takeLines}
-use Rattle.text.proofs.Laws.Known.{blank-sound}
+use Rattle.lines.proofs.Laws.Known.{blank-sound}
 use Rattle.text.proofs.Laws.Stored.{Storing, storing-none, storing-more, storing-done, given-room}
 use Rattle.text.proofs.Laws.Stored.{kept-after, sized-after, blank-sized, blank-means}
 use Rattle.text.proofs.Laws.Walk.{line-refused, line-taken, text-unended, text-ended}
 use native.Mathlib.Omega.{arith}
 use Prim.Native.Nat.{ℕ, _≤_, _+_, _-_}
+use mathlib.Core.List.{List}
 use mathlib.Core.Path.{_≡_, ap, sym, _∙_, subst}
 use lib.ListN.{length, drop, length-replicate}
 use borrow.Author.Needs.{needs}
@@ -39,9 +43,18 @@ Inv-loop s maps₀ statements₀ table₀ codes₀ k₀ c₀ maps statements tab
 abbrev μ-loop : tie.MeasureT-loop
 μ-loop s maps₀ statements₀ table₀ codes₀ k₀ c₀ maps statements table codes k c = length s - c .at
 
+-- the text
+abbrev textOf : (c : tie.At-loop Inv-loop2 μ-loop2 Inv-loop μ-loop) → List ℕ
+textOf c = c .before .before .before .before .before .before .before .args .s .now
+
 -- what the loop holds where it begins a line
 abbrev held : (c : tie.At-loop Inv-loop2 μ-loop2 Inv-loop μ-loop) → Kept
 held c = kept (c .loop .table) (c .loop .k) (arrays (c .loop .maps) (c .loop .statements))
+
+-- the answer x of `look` is the line ahead
+seen : (c : tie.After-look Inv-loop2 μ-loop2 Inv-loop μ-loop) {x : Ahead} → c .look .result ≡ x
+    → x ≡ lookAt (textOf (c .before)) (c .before .loop .c)
+seen c e = sym e ∙ c .look .ensures
 
 empty-requires : tie.Need-empty-requires Inv-loop2 μ-loop2 Inv-loop μ-loop
 empty-requires c κs = search needs
@@ -80,9 +93,9 @@ take-line-requires : tie.Need-take-line-requires Inv-loop2 μ-loop2 Inv-loop μ-
 take-line-requires c κs =
     let b = c .before .before .before in
     let e = b .before .before .before in
-    let s = e .before .before .before .before .before .before .before .args .s .now in
+    let s = textOf e in
     let L = e .loop in
-    let A = look-line s (L .c) _ _ (sym (b .l .given .1) ∙ b .before .before .look .ensures) in
+    let A = look-line s (L .c) _ _ (seen (b .before .before) (b .l .given .1)) in
     let from = ap (λ (l : Line). l .from) (A .1) in
     let len = ap (λ (l : Line). l .len) (A .1) in
     (omega (arith, from, len, A .0, end-ge s (L .c .at)), L .inv .3)
@@ -95,16 +108,12 @@ returns c =
     let T = c .before .before .before .take-line in
     let b = c .before .before .before .before .before .before .before in
     let e = b .before .before .before in
-    let s = e .before .before .before .before .before .before .before .args .s .now in
     let L = e .loop in
-    let a = sym (b .l .given .1) ∙ b .before .before .look .ensures in
+    let a = seen (b .before .before) (b .l .given .1) in
     let told = T .ensures .0 .outcome (arrays (L .maps) (L .statements)) (L .inv .4) in
-    let R = c .refuse .ensures in
-    record {
-      answer = R .answer ∙ line-refused s (held e) (L .c) (L .inv .6) _ _ a (T .result) told (c .before .if1 .taken);
-      taken = R .taken;
-      held = R .held;
-    }
+    subst (ReadingIs (c .refuse .result))
+    (line-refused (textOf e) (held e) (L .c) (L .inv .6) _ _ a (T .result) told (c .before .if1 .taken))
+    (c .refuse .ensures)
 
 add-at : tie.Need-add-at Inv-loop2 μ-loop2 Inv-loop μ-loop
 add-at c =
@@ -185,9 +194,9 @@ loop-less c =
     let t = c .before .before .before .before .before .before .before .before .before .before .before in
     let b = t .before .before .before .before in
     let e = b .before .before .before in
-    let s = e .before .before .before .before .before .before .before .args .s .now in
+    let s = textOf e in
     let L = e .loop in
-    let A = look-line s (L .c) _ _ (sym (b .l .given .1) ∙ b .before .before .look .ensures) in
+    let A = look-line s (L .c) _ _ (seen (b .before .before) (b .l .given .1)) in
     let at = ap (λ (n : Cursor). n .at) (A .2) in
     omega (arith, at, A .0, end-ge s (L .c .at))
 
@@ -199,10 +208,10 @@ loop-again c =
     let T = b9 .before .before .take-line in
     let b = b9 .before .before .before .before .before .before in
     let e = b .before .before .before in
-    let s = e .before .before .before .before .before .before .before .args .s .now in
+    let s = textOf e in
     let L = e .loop in
     let h = held e in
-    let a = sym (b .l .given .1) ∙ b .before .before .look .ensures in
+    let a = seen (b .before .before) (b .l .given .1) in
     let A = look-line s (L .c) _ _ a in
     let told = T .ensures .0 .outcome (arrays (L .maps) (L .statements)) (L .inv .4) in
     let at = ap (λ (n : Cursor). n .at) (A .2) in
@@ -229,16 +238,11 @@ unended-requires c κs =
 
 returns-2 : tie.Need-returns-2 Inv-loop2 μ-loop2 Inv-loop μ-loop
 returns-2 c =
-    let e = c .before .before .before .before .before in
-    let s = e .before .before .before .before .before .before .before .args .s .now in
-    let L = e .loop in
-    let a = sym (c .before .before .l2 .given .1) ∙ c .before .before .before .before .look .ensures in
-    let R = c .unended .ensures in
-    record {
-      answer = R .answer ∙ text-unended s (held e) (L .c) (L .inv .6) _ a;
-      taken = R .taken;
-      held = R .held;
-    }
+    let b = c .before .before .before .before in
+    let e = b .before in
+    let a = seen b (c .before .before .l2 .given .1) in
+    subst (ReadingIs (c .unended .result)) (text-unended (textOf e) (held e) (e .loop .c) (e .loop .inv .6) _ a)
+    (c .unended .ensures)
 
 enum-told : tie.Need-enum-told Inv-loop2 μ-loop2 Inv-loop μ-loop
 enum-told c = search needs
@@ -250,16 +254,12 @@ end-requires c κs =
 
 returns-3 : tie.Need-returns-3 Inv-loop2 μ-loop2 Inv-loop μ-loop
 returns-3 c =
-    let e = c .before .before .before .before in
-    let s = e .before .before .before .before .before .before .before .args .s .now in
+    let b = c .before .before .before in
+    let e = b .before in
     let L = e .loop in
-    let a = sym (c .before .enum-told .given .1) ∙ c .before .before .before .look .ensures in
-    let R = c .end .ensures s (L .table) in
-    record {
-      answer = R .answer ∙ text-ended s (held e) (L .c) (L .inv .6) (L .inv .0) a;
-      taken = R .taken;
-      held = R .held;
-    }
+    let a = seen b (c .before .enum-told .given .1) in
+    subst (ReadingIs (c .end .result)) (text-ended (textOf e) (held e) (L .c) (L .inv .6) (L .inv .0) a)
+    (c .end .ensures (textOf e) (L .table))
 
 pub read-lines-spec : {M : Type 1} → statement M
 read-lines-spec =

@@ -2,7 +2,7 @@
 use Prim.Native.Nat.{ℕ, suc, _+_, _-_, _≤_}
 use mathlib.Core.List.{List}
 use Rattle.lookup.specs.Names.{put}
-use Rattle.text.specs.Lets.{nameless, putNameless}
+use Rattle.lines.specs.Lets.{nameless, putNameless}
 use borrow.Author.Needs.{needs}
 use mathlib.Core.Path.{_≡_, refl, ap, _∙_}
 use native.Mathlib.Omega.{arith}

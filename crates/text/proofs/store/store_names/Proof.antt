@@ -1,21 +1,26 @@
 -- In each arm what the record gives is known. Assumes nothing.
-use Rattle.text.specs.declared.step.Put.{Put}
-use Rattle.text.specs.Added.{Fits, InputFits}
-use Rattle.text.specs.Stored.{tableAfter}
-use Rattle.lookup.specs.Names.{put, putShares}
-use Rattle.rules.specs.Limits.{mostStatements, maskedFrom}
-use Rattle.rules.specs.Order.{inMasked}
-use Rattle.text.specs.Lets.{putLet, LetFits}
-use Rattle.text.proofs.Laws.Known.{slot-lt}
-use Rattle.text.proofs.Laws.LetBlock.{let-slot}
-use Prim.Native.Nat.{ℕ, _+_, _<_}
+use Rattle.lines.specs.declared.step.Put.{Put}
+use Rattle.lines.specs.Added.{Fits, InputFits}
+use Rattle.lines.specs.Stored.{nameSlot, tableAfter}
+use Rattle.lookup.specs.Names.{putShares}
+use Rattle.rules.specs.Limits.{maskedFrom}
+use Rattle.text.proofs.Laws.Stored.{let-one}
+use Prim.Native.Nat.{ℕ, _+_}
 use native.Mathlib.Omega.{arith}
-use lib.Dec.{eqb}
 use mathlib.Core.List.{List}
-use mathlib.Core.Path.{sym, ap, _∙_, subst}
+use mathlib.Core.Path.{_≡_, sym, ap, _∙_, subst}
 use borrow.Author.Needs.{needs}
 use Rattle.text.proofs.store.store_names.Statement.{statement}
 use Rattle.text.proofs.store.store_names.Tie as tie
+
+-- what the record gives is q: it fits
+fits : (c : tie.Start) {q : Put} → c .args .p ≡ q → Fits (c .args .k) q
+fits c e = subst (Fits (c .args .k)) e (c .pre .1)
+
+-- and it tells the table
+told : (c : tie.Start) {q : Put} → c .args .p ≡ q
+    → let a = c .args in tableAfter (a .t .now) (a .k) q ≡ tableAfter (a .t .now) (a .k) (a .p)
+told c e = ap (tableAfter (c .args .t .now) (c .args .k)) (sym e)
 
 enum-told : tie.Need-enum-told
 enum-told c = search needs
@@ -42,76 +47,49 @@ put-shares-requires : tie.Need-put-shares-requires
 put-shares-requires c κs =
     let d = c .before .before .before .before .before .before .before .before in
     let K = d .pre .0 in
-    let p = c .before .before .before .before .before .before .p2 .given .1 in
-    let f : InputFits (d .args .k) = subst (λ (q : Put). Fits (d .args .k) q) p (d .pre .1) in
+    let f : InputFits (d .args .k) = fits d (c .before .before .before .before .before .before .p2 .given .1) in
     (K .shares, omega (arith, K .parts, K .statements, f .1))
 
 enum-known-p-3 : tie.Need-enum-known-p-3
 enum-known-p-3 c = search needs
 
-name-slot-requires : tie.Need-name-slot-requires
-name-slot-requires c κs = search needs
-
-put-requires-3 : tie.Need-put-requires-3
-put-requires-3 c κs =
-    let d = c .before .before .before .before .before in
-    let k = d .args .k in
-    let p = c .before .before .before .p3 .given .1 in
-    let f : k .origin + k .masked < mostStatements = subst (λ (q : Put). Fits k q) p (d .pre .1) in
-    omega (arith, c .before .name-slot .ensures, slot-lt k (d .pre .0) f (eqb (k .stage) inMasked))
+put-values-requires : tie.Need-put-values-requires
+put-values-requires c κs =
+    let d = c .before .before .before .before in (d .pre .0, fits d (c .before .before .p3 .given .1))
 
 enum-known-p-4 : tie.Need-enum-known-p-4
 enum-known-p-4 c = search needs
 
-name-slot-requires-2 : tie.Need-name-slot-requires-2
-name-slot-requires-2 c κs = search needs
-
-put-let-requires : tie.Need-put-let-requires
-put-let-requires c κs =
-    let d = c .before .before .before .before .before in
-    let k = d .args .k in
-    let p = c .before .before .before .p4 .given in
-    let f : LetFits k (p .0 .1 .0 .count) = subst (λ (q : Put). Fits k q) (p .1) (d .pre .1) in
-    (f .0, omega (arith, c .before .name-slot2 .ensures, let-slot k (d .pre .0) _ f (eqb (k .stage) inMasked)))
+put-values-requires-2 : tie.Need-put-values-requires-2
+put-values-requires-2 c κs =
+    let d = c .before .before .before .before in (d .pre .0, fits d (c .before .before .p4 .given .1))
 
 returns : tie.Need-returns
-returns c =
-    let d = c .before .before in
-    ap (tableAfter (d .args .t .now) (d .args .k)) (sym (c .enum-told .given .1))
+returns c = told (c .before .before) (c .enum-told .given .1)
 
 returns-2 : tie.Need-returns-2
 returns-2 c =
-    let d = c .before .before .before .before .before in
-    c .put .ensures ∙ ap (tableAfter (d .args .t .now) (d .args .k)) (sym (c .before .before .before .p .given .1))
+    c .put .ensures ∙ told (c .before .before .before .before .before) (c .before .before .before .p .given .1)
 
 returns-3 : tie.Need-returns-3
 returns-3 c =
-    let b3 = c .before .before .before in
     let d = c .before .before .before .before .before .before .before .before .before in
     let k = d .args .k in
     let p = c .before .before .before .before .before .before .before .p2 .given in
+    let first = c .before .before .before .put2 .ensures in
     c .put-shares .ensures
-    ∙ ap (λ (t : List ℕ). putShares t (maskedFrom + k .parts) (p .0 .0) (k .shares)) (b3 .put2 .ensures)
-    ∙ ap (tableAfter (d .args .t .now) k) (sym (p .1))
+    ∙ ap (λ (t : List ℕ). putShares t (maskedFrom + k .parts) (p .0 .0) (k .shares)) first ∙ told d (p .1)
 
 returns-4 : tie.Need-returns-4
 returns-4 c =
-    let d = c .before .before .before .before .before .before in
-    let k = d .args .k in
-    let p = c .before .before .before .before .p3 .given in
-    c .put3 .ensures
-    ∙ ap (λ (at : ℕ). put (d .args .t .now) at (p .0 .0)) (c .before .before .name-slot .ensures)
-    ∙ ap (tableAfter (d .args .t .now) k) (sym (p .1))
+    let d = c .before .before .before .before .before in
+    let p = c .before .before .before .p3 .given in
+    c .put-values .ensures ∙ let-one (d .args .t .now) (nameSlot (d .args .k)) (p .0 .0) ∙ told d (p .1)
 
 returns-5 : tie.Need-returns-5
 returns-5 c =
-    let d = c .before .before .before .before .before .before in
-    let k = d .args .k in
-    let p = c .before .before .before .before .p4 .given in
-    c .put-let .ensures
-    ∙ ap (λ (at : ℕ). putLet (d .args .t .now) at (p .0 .0) (p .0 .1 .0 .count))
-    (c .before .before .name-slot2 .ensures)
-    ∙ ap (tableAfter (d .args .t .now) k) (sym (p .1))
+    c .put-values2 .ensures
+    ∙ told (c .before .before .before .before .before) (c .before .before .before .p4 .given .1)
 
 pub store-names-spec : {M : Type 1} → statement M
 store-names-spec =
@@ -126,11 +104,9 @@ store-names-spec =
     add-put-shares
     put-shares-requires
     enum-known-p-3
-    name-slot-requires
-    put-requires-3
+    put-values-requires
     enum-known-p-4
-    name-slot-requires-2
-    put-let-requires
+    put-values-requires-2
     returns
     returns-2
     returns-3

@@ -37,9 +37,6 @@ locate-requires-6 c κs = c .before .before .before .pre .0
 enum-known-op-5 : tie.Need-enum-known-op-5
 enum-known-op-5 c = search needs
 
-draw-requires : tie.Need-draw-requires
-draw-requires c κs = tt
-
 returns : tie.Need-returns
 returns c = set-found (c .before .before .op .given .1) (c .locate .ensures)
 
@@ -58,7 +55,7 @@ returns-4 c =
     app-found (c .before .before .op4 .given .1) (c .before .before .before .before .pre) (c .locate6 .ensures)
 
 returns-5 : tie.Need-returns-5
-returns-5 c = rand-found (c .before .before .op5 .given .1) (c .draw .ensures)
+returns-5 c = rand-found (c .before .op5 .given .1) (c .before .before .before .pre .1)
 
 pub find-spec : {M : Type 1} → statement M
 find-spec =
@@ -75,7 +72,6 @@ find-spec =
     enum-known-op-4
     locate-requires-6
     enum-known-op-5
-    draw-requires
     returns
     returns-2
     returns-3

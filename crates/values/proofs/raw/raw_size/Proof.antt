@@ -72,9 +72,6 @@ image-size-requires c κs =
     let s = c .before .before .before .before .before in
     omega (arith, c .size-of6 .ensures, image-place (s .pre) (c .before .before .before .found4 .given .1))
 
-enum-told : tie.Need-enum-told
-enum-told c = search needs
-
 returns : tie.Need-returns
 unfolding foundSize
 returns c = rw (c .before .before .found .given .1) (c .size-of .ensures)
@@ -101,10 +98,6 @@ returns-4 c =
     let e = ap (λ (x : ℕ). nonzeros (getD (a .t1) f []) * x + oneIf (getD (a .t2) f 0)) (size-of6 .ensures) in
     rw (found4 .given .1) (c .image-size .ensures ∙ e)
 
-returns-5 : tie.Need-returns-5
-unfolding foundSize
-returns-5 c = rw (c .enum-told .given .1)
-
 pub raw-size-spec : {M : Type 1} → statement M
 raw-size-spec =
     tie.close
@@ -125,9 +118,7 @@ raw-size-spec =
     array-read-image-size
     size-of-requires-6
     image-size-requires
-    enum-told
     returns
     returns-2
     returns-3
-    returns-4
-    returns-5)
+    returns-4)

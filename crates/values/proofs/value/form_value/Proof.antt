@@ -1,7 +1,7 @@
 -- `values::value::form_value` meets its contract. Each arm by its law of Laws/Values. Assumes nothing.
 use borrow.Author.Needs.{needs}
 use Rattle.values.specs.Found.{foundValue}
-use Rattle.values.proofs.Laws.Values.{copy-asked, draw-asked, sum-asked, product-asked, image-asked, formed-at}
+use Rattle.values.proofs.Laws.Values.{copy-asked, sum-asked, product-asked, image-asked, formed-at}
 use Rattle.values.proofs.value.form_value.Statement.{statement}
 use Rattle.values.proofs.value.form_value.Tie as tie
 
@@ -39,14 +39,6 @@ form-image-requires : tie.Need-form-image-requires
 form-image-requires c κs =
     image-asked (c .before .before .before .before .before .before .before .pre)
     (c .before .before .before .found4 .given .1)
-
-enum-known-found-5 : tie.Need-enum-known-found-5
-enum-known-found-5 c = search needs
-
-form-copy-requires-2 : tie.Need-form-copy-requires-2
-form-copy-requires-2 c κs =
-    draw-asked (c .before .before .before .before .before .before .before .pre)
-    (c .before .before .before .found5 .given .1)
 
 same-length : tie.Need-same-length
 same-length c = search needs
@@ -100,19 +92,6 @@ returns-4 c =
     (c .before .before .before .before .before .before .before .before .found4 .given .1)
     (c .before .before .before .before .form-image .ensures)
 
-same-length-9 : tie.Need-same-length-9
-same-length-9 c = search needs
-
-same-length-10 : tie.Need-same-length-10
-same-length-10 c = search needs
-
-returns-5 : tie.Need-returns-5
-unfolding foundValue
-returns-5 c =
-    formed-at (c .before .before .before .before .before .before .before .before .before .before .before .before .pre)
-    (c .before .before .before .before .before .before .before .before .found5 .given .1)
-    (c .before .before .before .before .form-copy2 .ensures)
-
 pub form-value-spec : {M : Type 1} → statement M
 form-value-spec =
     tie.close
@@ -126,8 +105,6 @@ form-value-spec =
     enum-known-found-4
     array-read-form-image
     form-image-requires
-    enum-known-found-5
-    form-copy-requires-2
     same-length
     same-length-2
     returns
@@ -139,7 +116,4 @@ form-value-spec =
     returns-3
     same-length-7
     same-length-8
-    returns-4
-    same-length-9
-    same-length-10
-    returns-5)
+    returns-4)

@@ -1,0 +1,134 @@
+-- In each arm the word is known, and with it its number of fields. Assumes nothing.
+use borrow.Author.Needs.{needs}
+use borrow.Author.Tests.{lt-leb, le-leb}
+use Rattle.grammar.proofs.record.may_have.Statement.{statement}
+use Rattle.grammar.proofs.record.may_have.Tie as tie
+
+enum-told : tie.Need-enum-told
+enum-told c = search needs
+
+enum-told-2 : tie.Need-enum-told-2
+enum-told-2 c = search needs
+
+add-result : tie.Need-add-result
+add-result c = search needs
+
+enum-told-3 : tie.Need-enum-told-3
+enum-told-3 c = search needs
+
+enum-told-4 : tie.Need-enum-told-4
+enum-told-4 c = search needs
+
+enum-told-5 : tie.Need-enum-told-5
+enum-told-5 c = search needs
+
+enum-told-6 : tie.Need-enum-told-6
+enum-told-6 c = search needs
+
+enum-told-7 : tie.Need-enum-told-7
+enum-told-7 c = search needs
+
+enum-told-8 : tie.Need-enum-told-8
+enum-told-8 c = search needs
+
+enum-told-9 : tie.Need-enum-told-9
+enum-told-9 c = search needs
+
+enum-told-10 : tie.Need-enum-told-10
+enum-told-10 c = search needs
+
+enum-told-11 : tie.Need-enum-told-11
+enum-told-11 c = search needs
+
+enum-told-12 : tie.Need-enum-told-12
+enum-told-12 c = search needs
+
+enum-told-13 : tie.Need-enum-told-13
+enum-told-13 c = search needs
+
+returns : tie.Need-returns
+returns c = simp (c .before .enum-told13 .given .1, lt-leb 2 _ (c .if1 .taken))
+
+add-result-2 : tie.Need-add-result-2
+add-result-2 c = search needs
+
+enum-told-14 : tie.Need-enum-told-14
+enum-told-14 c = search needs
+
+returns-2 : tie.Need-returns-2
+returns-2 c = cc
+
+returns-3 : tie.Need-returns-3
+returns-3 c = cc
+
+returns-4 : tie.Need-returns-4
+returns-4 c = cc
+
+returns-5 : tie.Need-returns-5
+returns-5 c = cc
+
+returns-6 : tie.Need-returns-6
+returns-6 c = cc
+
+returns-7 : tie.Need-returns-7
+returns-7 c = cc
+
+returns-8 : tie.Need-returns-8
+returns-8 c = cc
+
+returns-9 : tie.Need-returns-9
+returns-9 c = cc
+
+returns-10 : tie.Need-returns-10
+returns-10 c = cc
+
+returns-11 : tie.Need-returns-11
+returns-11 c = cc
+
+returns-12 : tie.Need-returns-12
+returns-12 c = cc
+
+returns-13 : tie.Need-returns-13
+returns-13 c = cc
+
+returns-14 : tie.Need-returns-14
+returns-14 c = simp (c .before .enum-told13 .given .1, le-leb 2 _ (c .if1 .left))
+
+returns-15 : tie.Need-returns-15
+returns-15 c = search needs
+
+pub may-have-spec : {M : Type 1} → statement M
+may-have-spec =
+    tie.close
+    (tie.spec
+    enum-told
+    enum-told-2
+    add-result
+    enum-told-3
+    enum-told-4
+    enum-told-5
+    enum-told-6
+    enum-told-7
+    enum-told-8
+    enum-told-9
+    enum-told-10
+    enum-told-11
+    enum-told-12
+    enum-told-13
+    returns
+    add-result-2
+    enum-told-14
+    returns-2
+    returns-3
+    returns-4
+    returns-5
+    returns-6
+    returns-7
+    returns-8
+    returns-9
+    returns-10
+    returns-11
+    returns-12
+    returns-13
+    returns-14
+    returns-15)

@@ -1,0 +1,12 @@
+pub mod Lets
+pub mod Known
+pub mod States
+pub mod Kept
+pub mod Block
+pub mod Stages
+pub mod Taking
+pub mod Stating
+pub mod Leading
+pub mod LetDecoding
+pub mod LetWriting
+pub mod LetTaking

@@ -1,0 +1,13 @@
+-- Assumes nothing.
+use Rattle.lines.proofs.order.either.Statement.{statement}
+use Rattle.lines.proofs.order.either.Tie as tie
+use borrow.Author.Tests.{eq-eqb, ne-eqb}
+
+returns : tie.Need-returns
+returns c = simp (eq-eqb _ _ (c .if1 .taken))
+
+returns-2 : tie.Need-returns-2
+returns-2 c = simp (ne-eqb _ _ (c .if1 .left))
+
+pub either-spec : {M : Type 1} → statement M
+either-spec = tie.close (tie.spec returns returns-2)
