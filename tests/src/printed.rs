@@ -41,12 +41,17 @@ pub fn sbox_text() -> Vec<u8> {
     draft.text()
 }
 
-/// A text whose lines are refused by 3, 4, 5 and 13, with taken ones between them: formulas nested 8
-/// and 9 deep on each way in, whole and broken, and a last line without its line feed.
+/// A text whose lines are refused by 3, 4, 5 and 13, with taken ones between them: lines with one
+/// field not of its form, formulas nested 8 and 9 deep on each way in, whole and broken, and a last
+/// line without its line feed.
 pub fn handed_text() -> Vec<u8> {
     let mut draft = Draft::of("shares 1");
     draft.add(&map_line("f", &FIPS));
-    draft.add_lines("input x\norigin\nlet y x\nlet z xor(x,y");
+    draft.add_lines(
+        "map g.0 63 1f 3e 7c f8 f1 e3 c7 8f\nmap g 6 1f 3e 7c f8 f1 e3 c7 8f\n\
+         map g 63 1f 3e 7c f8 f1 e3 c7 8\ninput x\norigin\nset 1y x\nxor y 1x x\nxor y x 1x\n\
+         app y f.0 x\napp y f 1x\nlet y x\nlet z xor(x,y",
+    );
     for (way, before, behind) in WAYS {
         for (depth, end) in [(8, ""), (9, ""), (8, ")"), (9, ")"), (9, ")!")] {
             let formula = nested(before, "x", behind, depth);

@@ -181,7 +181,13 @@ pub fn short_texts() -> Vec<(String, Vec<u8>)> {
     add("blank_after_shares", "shares\t1\n\n".into());
     add("shares_twice", format!("shares\t1\n{whole}"));
     add("shares_missing", whole.replace("shares\t1\n", ""));
-    add("map_first", whole.replace("shares\t1\n", "map\tf\t63\t1f\t3e\t7c\tf8\tf1\te3\tc7\t8f\n"));
+    add(
+        "map_first",
+        whole.replace(
+            "shares\t1\n",
+            "map\tf\t63\t1f\t3e\t7c\tf8\tf1\te3\tc7\t8f\n",
+        ),
+    );
     add("input_first", whole.replace("shares\t1\n", "input\tx\n"));
     add("blank_after_output", format!("{whole}\n"));
     add("record_after_output", format!("{whole}masked\n"));
