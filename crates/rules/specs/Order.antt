@@ -1,4 +1,5 @@
 -- The order of records (refusal 6): the stages of a text, where each word may stand, and the stage after it.
+-- Assumes nothing.
 use Prim.Native.Nat.{ℕ}
 use mathlib.Core.Bool.{Bool, false, _||_}
 use lib.Dec.{eqb}

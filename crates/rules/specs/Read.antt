@@ -1,4 +1,5 @@
 -- Reading a text: the first faulty line from the top, and on it the first fault; or the routine that the text holds.
+-- Assumes nothing.
 use Prim.Native.Nat.{ℕ, zero, suc, _+_}
 use mathlib.Core.Bool.{Bool, not, cond}
 use mathlib.Core.List.{List, [], _∷_}

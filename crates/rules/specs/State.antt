@@ -1,4 +1,4 @@
--- What the records above a line have given, and the few ways in which one more record adds to it.
+-- What the records above a line have given. Assumes nothing.
 use Prim.Native.Nat.{ℕ}
 use mathlib.Core.List.{List, []}
 use Rattle.rules.specs.declared.types.Statement.{Statement}
@@ -24,6 +24,7 @@ pub record State : Type 0 where
   pub result : ℕ
   pub outputs : List ℕ
 
+-- no names and no statements
 abbrev nothing : Block
 nothing = record { names = []; statements = [] }
 
