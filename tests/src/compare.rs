@@ -9,14 +9,24 @@ use crate::random::Random;
 use crate::reading::read;
 use crate::report::{CoefficientsAnswer, Report, RunAnswer, Verdict, WRONG_NUMBER};
 use crate::routine::Routine;
+use crate::trials::{self, Trials, MOST_TRIALS};
 use crate::unroll::unrolled;
 
 /// The compared implementation.
 pub trait Side {
-    /// Judges a text in three lent buffers.
-    fn judge(&self, text: &[u8], left: &mut [u8], right: &mut [u8], list: &mut [u8]) -> Report;
+    /// Judges a text with these trials in three lent buffers.
+    fn judge(
+        &self,
+        text: &[u8],
+        trials: Trials,
+        left: &mut [u8],
+        right: &mut [u8],
+        list: &mut [u8],
+    ) -> Report;
     /// Runs a text on given bytes.
     fn run(&self, text: &[u8], bytes: &[u8]) -> RunAnswer;
+    /// A text's number of variables, refusal and line.
+    fn read(&self, text: &[u8]) -> [u64; 3];
     /// The coefficients of a map.
     fn coefficients(&self, list: &[u8]) -> CoefficientsAnswer;
 }
@@ -80,18 +90,32 @@ impl<'a> Comparison<'a> {
 
     /// Compares all operations on one text; an error says what differs.
     pub fn check(&mut self, text: &[u8]) -> Result<Outcome, String> {
-        let judgement = self.check_judge(text, true)?;
+        let trials = self.draw_trials();
+        let judgement = self.check_judge(text, trials, true)?;
         let (mut others, mut unrolled) = (vec![], false);
         if self.random.one_in(64) {
-            others.push(self.check_judge(text, false)?.report.refusal);
+            let many = Trials {
+                count: MOST_TRIALS + 1 + self.random.below(2) as u32 * 0x7fff_0000,
+                ..trials
+            };
+            others.push(self.check_judge(text, trials, false)?.report.refusal);
+            others.push(self.check_judge(text, many, true)?.report.refusal);
+            others.push(self.check_judge(text, many, false)?.report.refusal);
         }
         match read(text) {
             Ok(routine) => {
+                same(
+                    "read",
+                    &self.side.read(text),
+                    &[routine.variables as u64, 0, 0],
+                )?;
                 self.check_meaning(text, &routine, &judgement)?;
                 others.extend(self.check_runs(text, &routine)?);
-                unrolled = self.check_unrolled(text, &routine, &judgement)?;
+                unrolled = self.check_unrolled(text, trials, &routine, &judgement)?;
             }
             Err(refusal) => {
+                let told = [0, refusal.number, refusal.line];
+                same("read", &self.side.read(text), &told)?;
                 let count = self.random.below(MOST_VARIABLES + 2);
                 let answer = self.run_drawn(text, count).1;
                 same("run", &answer, &RunAnswer::refused(refusal))?;
@@ -127,16 +151,35 @@ impl<'a> Comparison<'a> {
         lengths
     }
 
+    /// The trials that are asked for: the defaults, or so many from a drawn number; seldom all that may be.
+    fn draw_trials(&mut self) -> Trials {
+        if self.random.one_in(2) {
+            return trials::DEFAULT;
+        }
+        let count = match self.random.one_in(256) {
+            true => MOST_TRIALS,
+            false => [0, 1, 31, 32, 256, 300][self.random.below(6)],
+        };
+        let start = (0..4).fold(0, |start, _| start << 8 | self.random.byte() as u32);
+        Trials { count, start }
+    }
+
     /// Compares judge: the report, and every byte of the lent buffers and of their guards.
-    fn check_judge(&mut self, text: &[u8], enough: bool) -> Result<Judgement, String> {
+    fn check_judge(
+        &mut self,
+        text: &[u8],
+        trials: Trials,
+        enough: bool,
+    ) -> Result<Judgement, String> {
         let lengths = self.draw_lengths(enough);
         let lent = [&mut self.left, &mut self.right, &mut self.list];
         for (buffer, length) in lent.into_iter().zip(lengths) {
             buffer.prepare(&self.pool, &mut self.random, length);
         }
         let (left, right) = (self.left.inner(), self.right.inner());
-        let report = self.side.judge(text, left, right, self.list.inner());
-        let own = judge_lent(text, lengths[0], lengths[1], lengths[2]);
+        let list = self.list.inner();
+        let report = self.side.judge(text, trials, left, right, list);
+        let own = judge_lent(text, trials, lengths);
         same("report", &report, &own.report)?;
         let work = match own.report.verdict {
             Verdict::Refused => &[],
@@ -172,7 +215,7 @@ impl<'a> Comparison<'a> {
         Ok(vec![WRONG_NUMBER.number])
     }
 
-    /// Checks a verdict by running: differs on its bytes, equal on drawn valuations and, for up to
+    /// Checks a verdict by running: differs and found on their bytes, equal on drawn valuations and, for up to
     /// two variables, on all.
     fn check_meaning(
         &mut self,
@@ -181,12 +224,12 @@ impl<'a> Comparison<'a> {
         judgement: &Judgement,
     ) -> Result<(), String> {
         match judgement.report.verdict {
-            Verdict::Differs => {
+            Verdict::Differs | Verdict::Found => {
                 let answer = self.side.run(text, &judgement.bytes);
                 let own = RunAnswer::taken(run_routine(routine, &judgement.bytes));
                 same("run", &answer, &own)?;
                 let shown = answer.original != answer.joined;
-                ask(shown, || "differs, but run gives one byte".into())
+                ask(shown, || "differs or found, but run gives one byte".into())
             }
             Verdict::Equal => {
                 let random = &mut self.random;
@@ -201,17 +244,18 @@ impl<'a> Comparison<'a> {
     }
 
     /// Judges and runs the unrolled form of a text with a let: the answers are those of the text,
-    /// and the line of unknown comes from the text's.
+    /// and the line of unknown and found comes from the text's.
     fn check_unrolled(
         &mut self,
         text: &[u8],
+        trials: Trials,
         routine: &Routine,
         judgement: &Judgement,
     ) -> Result<bool, String> {
         let Some(form) = unrolled(text) else {
             return Ok(false);
         };
-        let mut own = self.check_judge(&form.text, true)?;
+        let mut own = self.check_judge(&form.text, trials, true)?;
         own.report.line = form.source(own.report.line);
         same("unrolled form", &own, judgement)?;
         let (bytes, answer) = self.run_drawn(&form.text, routine.variables);

@@ -3,13 +3,14 @@
 
 use crate::batch;
 use crate::field::power;
-use crate::judge::{judge, judge_lent, Judgement};
+use crate::judge::{judge_lent, judge_with, Judgement};
 use crate::limits::{MOST_VARIABLES, WORK};
 use crate::maps::{self, FIPS, SQUARING};
 use crate::reading::{read, record_in};
 use crate::texts::draft::{map_line, Draft};
 use crate::texts::formulas::nested;
 use crate::texts::lets::WAYS;
+use crate::trials::{self, Trials, MOST_TRIALS};
 
 /// What every lent byte is before a text is judged.
 const BEFORE: u8 = 0xff;
@@ -76,8 +77,8 @@ pub fn tables() -> String {
     lines + &list_line("ten_bytes", &ten)
 }
 
-/// What is printed for the text of this number.
-pub fn lines(at: usize, name: &str, text: &[u8]) -> String {
+/// What is printed for the text of this number, with these trials.
+pub fn lines(at: usize, name: &str, text: &[u8], trials: Trials) -> String {
     let lent = [WORK + 1, WORK + 1, MOST_VARIABLES + 1];
     let mut lines = String::new();
     if at == 0 {
@@ -87,12 +88,12 @@ pub fn lines(at: usize, name: &str, text: &[u8]) -> String {
     if at < HANDED {
         lines += &records(text);
     }
-    lines += &format!("{name}\t{}", judge(text).line());
+    lines += &format!("{name}\t{}", judge_with(text, trials).line());
     lines += &run_line(name, text);
-    lines + &kept_line(name, text, lent)
+    lines + &kept_line(name, text, trials, lent)
 }
 
-/// The answers with each buffer at its least length, and one below.
+/// The answers with each buffer at its least length, and one below; and so with too many trials.
 fn least_lists(text: &[u8]) -> String {
     let least = [WORK, WORK, MOST_VARIABLES];
     let short = |at: usize| {
@@ -100,13 +101,19 @@ fn least_lists(text: &[u8]) -> String {
         lent[at] -= 1;
         lent
     };
+    let many = Trials {
+        count: MOST_TRIALS + 1,
+        start: 1,
+    };
     [
-        ("least", least),
-        ("short_list", short(2)),
-        ("short_left", short(0)),
-        ("short_right", short(1)),
+        ("least", trials::DEFAULT, least),
+        ("short_list", trials::DEFAULT, short(2)),
+        ("short_left", trials::DEFAULT, short(0)),
+        ("short_right", trials::DEFAULT, short(1)),
+        ("many", many, least),
+        ("many_short", many, short(2)),
     ]
-    .map(|(name, lent)| kept_line(name, text, lent))
+    .map(|(name, trials, lent)| kept_line(name, text, trials, lent))
     .concat()
 }
 
@@ -154,8 +161,9 @@ fn run_line(name: &str, text: &[u8]) -> String {
 }
 
 /// The refusal's number, and how many bytes of each lent buffer are as they were.
-fn kept_line(name: &str, text: &[u8], [left, right, list]: [usize; 3]) -> String {
-    let Judgement { report, bytes } = judge_lent(text, left, right, list);
+fn kept_line(name: &str, text: &[u8], trials: Trials, lent: [usize; 3]) -> String {
+    let Judgement { report, bytes } = judge_lent(text, trials, lent);
+    let [left, right, list] = lent;
     let changed = bytes.iter().filter(|byte| **byte != BEFORE).count();
     let cleared = if report.refusal == 0 { WORK } else { 0 };
     let kept = [left - cleared, right - cleared, list - changed];

@@ -29,6 +29,7 @@ fn linked() -> Result<Box<dyn Side>, String> {
 mod library {
     use bench_tests::compare::Side;
     use bench_tests::report::{CoefficientsAnswer, Report, RunAnswer, Verdict};
+    use bench_tests::trials::{self, Trials};
 
     // Each answers 1 where enough numbers are lent to tell its answer.
     extern "C" {
@@ -44,6 +45,21 @@ mod library {
             report: *mut u64,
             report_len: usize,
         ) -> u8;
+        fn bench_judge_with(
+            text: *const u8,
+            text_len: usize,
+            count: u32,
+            start: u32,
+            left: *mut u8,
+            left_len: usize,
+            right: *mut u8,
+            right_len: usize,
+            list: *mut u8,
+            list_len: usize,
+            report: *mut u64,
+            report_len: usize,
+        ) -> u8;
+        fn bench_read(text: *const u8, text_len: usize, answer: *mut u64, answer_len: usize) -> u8;
         fn bench_run(
             text: *const u8,
             text_len: usize,
@@ -64,22 +80,46 @@ mod library {
     pub struct Product;
 
     impl Side for Product {
-        fn judge(&self, text: &[u8], left: &mut [u8], right: &mut [u8], list: &mut [u8]) -> Report {
+        fn judge(
+            &self,
+            text: &[u8],
+            trials: Trials,
+            left: &mut [u8],
+            right: &mut [u8],
+            list: &mut [u8],
+        ) -> Report {
             let mut n = [u64::MAX; 6];
-            // Each pair is a live slice and the five are apart; the function takes all inputs.
+            // Each pair is a live slice and the five are apart; the functions take all inputs.
             let told = unsafe {
-                bench_judge(
-                    text.as_ptr(),
-                    text.len(),
-                    left.as_mut_ptr(),
-                    left.len(),
-                    right.as_mut_ptr(),
-                    right.len(),
-                    list.as_mut_ptr(),
-                    list.len(),
-                    n.as_mut_ptr(),
-                    n.len(),
-                )
+                if trials == trials::DEFAULT {
+                    bench_judge(
+                        text.as_ptr(),
+                        text.len(),
+                        left.as_mut_ptr(),
+                        left.len(),
+                        right.as_mut_ptr(),
+                        right.len(),
+                        list.as_mut_ptr(),
+                        list.len(),
+                        n.as_mut_ptr(),
+                        n.len(),
+                    )
+                } else {
+                    bench_judge_with(
+                        text.as_ptr(),
+                        text.len(),
+                        trials.count,
+                        trials.start,
+                        left.as_mut_ptr(),
+                        left.len(),
+                        right.as_mut_ptr(),
+                        right.len(),
+                        list.as_mut_ptr(),
+                        list.len(),
+                        n.as_mut_ptr(),
+                        n.len(),
+                    )
+                }
             };
             assert_eq!(told, 1, "six numbers were lent");
             Report {
@@ -112,6 +152,14 @@ mod library {
                 refusal: n[2],
                 line: n[3],
             }
+        }
+
+        fn read(&self, text: &[u8]) -> [u64; 3] {
+            let mut n = [u64::MAX; 3];
+            // As above.
+            let told = unsafe { bench_read(text.as_ptr(), text.len(), n.as_mut_ptr(), n.len()) };
+            assert_eq!(told, 1, "three numbers were lent");
+            n
         }
 
         fn coefficients(&self, list: &[u8]) -> CoefficientsAnswer {

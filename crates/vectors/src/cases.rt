@@ -1,5 +1,6 @@
-// The stored texts, one case behind the other: a line with the name, a tab and the number of bytes,
-// then these bytes and a line feed.
+// The stored texts, one case after another: a line with the name, the number of bytes, the trials
+// that may be made and the number that they start from, parted by tabs; then these bytes and a line
+// feed.
 use crate::lists::print_kept;
 use crate::lists::print_lists;
 use crate::records::print_records;
@@ -7,6 +8,7 @@ use crate::runs::print_run;
 use crate::sbox::print_rows;
 use crate::show::print_word;
 use crate::stored;
+use verdict::report::Trials;
 
 // More cases than are stored.
 const ENOUGH: usize = 100000;
@@ -34,8 +36,8 @@ fn print_next(at: usize) -> bool {
     if n == 0 {
         return false;
     }
-    let count = stored::number(&line[..n]);
-    let end = stored::read_text(&mut text, count);
+    let count = stored::number(&line[..n], 1);
+    let end = stored::read_text(&mut text, count as usize);
     print_first(at, &text[..end]);
     print_named(&line[..n], &text[..end]);
     true
@@ -55,23 +57,26 @@ fn print_first(at: usize, text: &[u8]) {
 
 // Prints what comes of a case with this first line.
 fn print_named(line: &[u8], text: &[u8]) {
-    let n = stored::name_len(line);
-    print_case(&line[..n], text);
+    let t = Trials {
+        count: stored::number(line, 2),
+        start: stored::number(line, 3),
+    };
+    print_case(stored::name(line), text, t);
 }
 
 // Prints a case's name, a tab and the line of its text; then what run answers, and what judge
 // leaves in its buffers.
-fn print_case(name: &[u8], text: &[u8]) {
+fn print_case(name: &[u8], text: &[u8], t: Trials) {
     print_word(name);
     print_word(b"\t");
-    print_line(text);
+    print_line(text, t);
     print_run(name, text);
-    print_kept(name, text);
+    print_kept(name, text, t);
 }
 
 // Prints the line of a text.
-fn print_line(text: &[u8]) {
+fn print_line(text: &[u8], t: Trials) {
     let mut out = [0u8; 256];
-    let n = print::answer(text, &mut out);
+    let n = print::answer_with(text, t, &mut out);
     print_word(&out[..n]);
 }

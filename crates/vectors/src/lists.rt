@@ -3,7 +3,9 @@ use crate::show::end_line;
 use crate::show::print_number;
 use crate::show::print_small;
 use crate::show::print_word;
-use judge::judge;
+use judge::judge_with;
+use verdict::report::Trials;
+use verdict::trials::default_trials;
 ghost use Prim.Native.Nat.{_≤_};
 
 // The lengths at which judge takes its buffers.
@@ -11,33 +13,44 @@ const WORK: usize = 65280;
 
 const LIST: usize = 16;
 
+// More trials than may be asked for.
+const TOO_MANY: Trials = Trials {
+    count: 65536,
+    start: 1,
+};
+
 // What every lent byte is before.
 const BEFORE: u8 = 0xff;
 
-// Prints the answers for a text, with each buffer at its least length, and one below.
+// Prints the answers for a text, with each buffer at its least length, and one below; and so with
+// too many trials.
 pub(crate) fn print_lists(text: &[u8]) {
-    print_judged(b"least", text, WORK, WORK, LIST);
-    print_judged(b"short_list", text, WORK, WORK, LIST - 1);
-    print_judged(b"short_left", text, WORK - 1, WORK, LIST);
-    print_judged(b"short_right", text, WORK, WORK - 1, LIST);
+    let t = default_trials();
+    print_judged(b"least", text, t, WORK, WORK, LIST);
+    print_judged(b"short_list", text, t, WORK, WORK, LIST - 1);
+    print_judged(b"short_left", text, t, WORK - 1, WORK, LIST);
+    print_judged(b"short_right", text, t, WORK, WORK - 1, LIST);
+    print_judged(b"many", text, TOO_MANY, WORK, WORK, LIST);
+    print_judged(b"many_short", text, TOO_MANY, WORK, WORK, LIST - 1);
 }
 
 // Prints what a text leaves of each buffer, one byte longer than asked.
-pub(crate) fn print_kept(name: &[u8], text: &[u8]) {
-    print_judged(name, text, WORK + 1, WORK + 1, LIST + 1);
+pub(crate) fn print_kept(name: &[u8], text: &[u8], t: Trials) {
+    print_judged(name, text, t, WORK + 1, WORK + 1, LIST + 1);
 }
 
 // Judges a text in buffers of these lengths and prints the refusal's number, and how many bytes of
 // each buffer are as they were.
-fn print_judged(name: &[u8], text: &[u8], left: usize, right: usize, list: usize) {
+fn print_judged(name: &[u8], text: &[u8], t: Trials, left: usize, right: usize, list: usize) {
     let mut lefts = [BEFORE; 65281];
     let mut rights = [BEFORE; 65281];
     let mut bytes = [BEFORE; 17];
     if 65281 < left || 65281 < right || 17 < list {
         return;
     }
-    let report = judge(
+    let report = judge_with(
         text,
+        t,
         &mut lefts[0..left],
         &mut rights[0..right],
         &mut bytes[0..list],

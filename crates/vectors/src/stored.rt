@@ -1,5 +1,7 @@
-// What is read of a case: its first line, the name and the number in it, and its text.
+// What is read of a case: its first line, the name and the numbers in it, and its text.
 use libc::STDIN_FILENO;
+use tokens::split::part;
+use tokens::split::piece;
 ghost use Prim.Native.Nat.{_<_, _≤_};
 ghost use lib.ListN.{length};
 ghost use Rattle.io.specs.Counts.{Counts};
@@ -45,48 +47,40 @@ fn least(a: usize, b: usize) -> usize
     if a < b { a } else { b }
 }
 
-// How many bytes of a line stand before its tab.
-pub(crate) fn name_len(line: &[u8]) -> usize
-    ensures { λ r. ⌜ Counts r (now (line .entry)) ⌝ }
-{
-    let mut i = 0;
-    while i < line.len() {
-        if line[i] == b'\t' {
-            return i;
-        }
-        i += 1;
-    }
-    i
+// The bytes of a line before its first tab.
+pub(crate) fn name(line: &[u8]) -> &[u8] {
+    let p = piece(line, b'\t', 0);
+    part(line, p.at, p.len)
 }
 
-// The number that the decimal digits behind the tab of a line give; of a longer one, its low six
-// digits.
-pub(crate) fn number(line: &[u8]) -> usize
-    ensures { λ r. ⌜ r < 1000000 ⌝ }
-{
-    let mut n: usize = 0;
-    let mut i = 0;
-    while i < line.len() {
-        n = appended(n, line[i]);
-        i += 1;
-    }
-    n
+// The number that field k of a line gives in decimal; of a larger one, its low 32 bits.
+pub(crate) fn number(line: &[u8], k: usize) -> u32 {
+    let p = piece(line, b'\t', k);
+    value(part(line, p.at, p.len))
 }
 
-// A number with one more digit, its low six digits; 0 behind a tab.
-fn appended(n: usize, byte: u8) -> usize
-    requires { ⌜ n < 1000000 ⌝ }
-    ensures { λ r. ⌜ r < 1000000 ⌝ }
-{
-    if byte == b'\t' {
-        return 0;
+// The number that decimal digits give; of a larger one, its low 32 bits.
+fn value(digits: &[u8]) -> u32 {
+    let mut n: u64 = 0;
+    let mut i = 0;
+    while i < digits.len() {
+        n = appended(n, digits[i]);
+        i += 1;
     }
-    (n * 10 + wide(byte % 16)) % 1000000
+    n as u32
+}
+
+// A number with one more digit, its low 32 bits.
+fn appended(n: u64, byte: u8) -> u64
+    requires { ⌜ n < 4294967296 ⌝ }
+    ensures { λ r. ⌜ r < 4294967296 ⌝ }
+{
+    (n * 10 + wide(byte % 16)) % 4294967296
 }
 
 // A byte as a number.
-fn wide(byte: u8) -> usize
+fn wide(byte: u8) -> u64
     ensures { λ r. ⌜ r < 256 ⌝ }
 {
-    byte as usize
+    byte as u64
 }

@@ -9,38 +9,50 @@ use Rattle.rules.specs.Read.{Reading, readText}
 use Rattle.rules.specs.Formed.{Formed}
 use Rattle.rules.proofs.Laws.Keeping.{Accepts}
 use Rattle.rules.proofs.Laws.Formed.{read-formed}
-use Rattle.verdict.specs.Judge.{Outcome, refused, judgeReading, short, outcome}
+use Rattle.verdict.specs.declared.report.Trials.{Trials}
+use Rattle.verdict.specs.Judge.{Outcome, refused, tooMany, judgeReading, short, outcome}
 use Rattle.verdict.specs.Verdict.{ClaimsOf, ClaimsIn}
 use Rattle.verdict.proofs.Verdict.{judge-claims, claims-unique}
 
--- ---- what reading gives
+-- ---- what was read
 
-reading-claims : (g : Reading) → Accepts Formed g → ClaimsOf g (judgeReading g)
-unfolding judgeReading
-reading-claims (Reading.refused number line) F = refl
-reading-claims (Reading.accepted r) F = judge-claims r F
+module _ (t : Trials) (g : Reading) (F : Accepts Formed g) where
+  reading-claims : ClaimsOf t g (judgeReading t g)
+  unfolding judgeReading
+  reading-claims = go g F
+    where
+      go : (g : Reading) → Accepts Formed g → ClaimsOf t g (judgeReading t g)
+      go (Reading.refused number line) F = refl
+      go (Reading.accepted r) F = judge-claims r F t
 
-reading-unique : (g : Reading) → Accepts Formed g → (o p : Outcome) → ClaimsOf g o → ClaimsOf g p → o ≡ p
-reading-unique (Reading.refused number line) F o p h k = h ∙ sym k
-reading-unique (Reading.accepted r) F o p h k = claims-unique r F o p h k
+  reading-only : (o p : Outcome) → ClaimsOf t g o → ClaimsOf t g p → o ≡ p
+  reading-only = go g F
+    where
+      go : (g : Reading) → Accepts Formed g → (o p : Outcome) → ClaimsOf t g o → ClaimsOf t g p → o ≡ p
+      go (Reading.refused number line) F o p h k = h ∙ sym k
+      go (Reading.accepted r) F o p h k = claims-unique r F t o p h k
+
+  answer-claims : (s m : Bool) → ClaimsIn s m t g (cond s (refused 1 0) (cond m (refused 14 0) (judgeReading t g)))
+  answer-claims true m = refl
+  answer-claims false true = refl
+  answer-claims false false = reading-claims
+
+  answer-only : (s m : Bool) (o p : Outcome) → ClaimsIn s m t g o → ClaimsIn s m t g p → o ≡ p
+  answer-only true m o p h k = h ∙ sym k
+  answer-only false true o p h k = h ∙ sym k
+  answer-only false false o p h k = reading-only o p h k
 
 -- ---- every text
 
-module _ (left right list : ℕ) (text : List ℕ) where
+module _ (t : Trials) (left right list : ℕ) (text : List ℕ) where
   -- THEOREM: the outcome claims what holds of the text
-  pub outcome-claims : ClaimsIn (short left right list) (readText text) (outcome left right list text)
+  pub outcome-claims : ClaimsIn (short left right list) (tooMany t) t (readText text) (outcome t left right list text)
   unfolding outcome
-  outcome-claims = go (short left right list)
-    where
-      go : (b : Bool) → ClaimsIn b (readText text) (cond b (refused 1 0) (judgeReading (readText text)))
-      go true = refl
-      go false = reading-claims (readText text) (read-formed text)
+  outcome-claims = answer-claims t (readText text) (read-formed text) (short left right list) (tooMany t)
 
   -- THEOREM: and no other outcome does
-  pub outcome-only : (o : Outcome) → ClaimsIn (short left right list) (readText text) o
-      → o ≡ outcome left right list text
-  outcome-only o h = go (short left right list) o (outcome left right list text) h outcome-claims
-    where
-      go : (b : Bool) (o p : Outcome) → ClaimsIn b (readText text) o → ClaimsIn b (readText text) p → o ≡ p
-      go true o p h k = h ∙ sym k
-      go false o p h k = reading-unique (readText text) (read-formed text) o p h k
+  pub outcome-only : (o : Outcome) → ClaimsIn (short left right list) (tooMany t) t (readText text) o
+      → o ≡ outcome t left right list text
+  outcome-only o h =
+      answer-only t (readText text) (read-formed text) (short left right list) (tooMany t) o
+      (outcome t left right list text) h outcome-claims

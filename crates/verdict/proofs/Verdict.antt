@@ -2,7 +2,8 @@
 -- reduced difference has run's values, a reduced polynomial with a term differs from zero somewhere, and a variable on
 -- which its values do not depend does not occur in it.
 -- Assumes nothing.
-use mathlib.Core.Path.{_≡_, refl, sym, ap, _∙_, subst}
+use mathlib.Core.Path.{_≡_, refl, sym, ap, ap₂, _∙_, subst}
+use mathlib.Core.Bool.{true, false}
 use mathlib.Core.Logic.{_≢_, _↔_, _⊎_, inl, inr}
 use Prim.Native.Nat.{ℕ, suc, _-_, _≤_}
 use mathlib.Core.List.{List, [], _∷_}
@@ -26,8 +27,16 @@ use Rattle.verdict.specs.Instances.{modulusOf, powersOf, symbolic, diffe
 use Rattle.verdict.specs.Run.{resultAt, joinedAt}
 use Rattle.verdict.specs.Count.{stepAt, steps, standing, mostTerms, unknownLine}
 use Rattle.verdict.specs.Idle.{idle}
-use Rattle.verdict.specs.Judge.{Outcome, refused, equal, differs, unknown, decided, settled, judgeRoutine}
-use Rattle.verdict.specs.Verdict.{placesOf, GivenUp, Decided, Agrees, Equals, Differing, Unknowns, Claims}
+use Rattle.verdict.specs.declared.report.Trials.{Trials}
+use Rattle.verdict.specs.Trials as trials
+use Rattle.verdict.specs.Trials.{trialAt, agreesOn, try}
+use Rattle.verdict.specs.Judge.{Outcome, refused, equal, differs, unknown, found, decided, givenUp, settled}
+use Rattle.verdict.specs.Judge.{judgeRoutine}
+use borrow.Author.Tests.{eqb-true, eqb-false}
+use native.Mathlib.Decide.{decLe}
+use Rattle.verdict.proofs.Laws.Trials.{try-none, try-some, trial-bytes}
+use Rattle.verdict.specs.Verdict.{placesOf, GivenUp, Decided, Agrees, Equals, Differing, FirstPlace}
+use Rattle.verdict.specs.Verdict.{TrialsAgree, Finds, Claims}
 use Rattle.rules.specs.Formed.{Formed}
 use Rattle.verdict.proofs.Laws.Value.{modulus-of, room-for, difference-value, difference-reduced}
 use Rattle.verdict.proofs.Laws.Bytes.{bytes-length}
@@ -42,16 +51,17 @@ line-none : (r : Routine) → unknownLine r (symbolic r) ≡ none → Decided r
 unfolding unknownLine placesOf
 line-none r e = over-none (mostTerms r) (standing r (steps r (symbolic r))) (steps r (symbolic r)) e
 
-line-some : (r : Routine) (line : ℕ) → unknownLine r (symbolic r) ≡ some line → Unknowns r line
+line-some : (r : Routine) (line : ℕ) → unknownLine r (symbolic r) ≡ some line → FirstPlace r line
 unfolding unknownLine placesOf
 line-some r line e =
     let f = over-found (mostTerms r) (standing r (steps r (symbolic r))) (steps r (symbolic r)) line e in
     record { at = f .0; given = f .1; lined = f .2 }
 
 -- judge's outcome, by the count and the difference
-pub judge-settled : (r : Routine) → judgeRoutine r ≡ settled r (unknownLine r (symbolic r)) (difference r)
+pub judge-settled : (t : Trials) (r : Routine) → judgeRoutine t r
+    ≡ settled t r (unknownLine r (symbolic r)) (difference r)
 unfolding judgeRoutine difference
-judge-settled r = refl
+judge-settled t r = refl
 
 module _ (r : Routine) (F : Formed r) where
   -- ---- the difference
@@ -118,25 +128,58 @@ module _ (r : Routine) (F : Formed r) where
 
   -- ---- THEOREM: the outcome claims what holds
 
-  decided-claims : Decided r → (p : Poly) → difference r ≡ p → Claims r (decided r p)
+  decided-claims : (t : Trials) → Decided r → (p : Poly) → difference r ≡ p → Claims t r (decided r p)
   unfolding decided
-  decided-claims d [] e = record {
+  decided-claims t d [] e = record {
     counted = d;
     equivalent = agrees-equivalent r F (none-agrees e);
     idled = idle-counts r F;
   }
-  decided-claims d (t ∷ p) e =
+  decided-claims t d (x ∷ p) e =
       subst (λ (q : Poly). Differing r (length q) (idle r) (firstDiffering (gf (modulusOf r)) (r .variables) q)) e
       (differing d (subst Some (sym e) tt))
 
+  -- ---- the trials of a text that is given up
+
+  -- run's two bytes, by the test
+  told-same : (xs : List ℕ) → agreesOn r xs ≡ true → resultAt r xs ≡ joinedAt r xs
+  unfolding agreesOn
+  told-same xs h = eqb-true (resultAt r xs) (joinedAt r xs) h
+
+  told-differ : (xs : List ℕ) → agreesOn r xs ≡ false → resultAt r xs ≢ joinedAt r xs
+  unfolding agreesOn
+  told-differ xs h = eqb-false (resultAt r xs) (joinedAt r xs) h
+
+  -- what the trials claim
+  trials-claim : (t : Trials) (line : ℕ) → FirstPlace r line → (g : trials.Found) → try r (t .count) (t .start) ≡ g
+      → Claims t r (givenUp (t .count) line g)
+  unfolding givenUp trialAt
+  trials-claim t line p trials.nothing e = record {
+    first = p;
+    agree = λ i l. told-same (trialAt r (t .start) i) (try-none r (t .count) 0 (t .start) e i l);
+    all = refl;
+  }
+  trials-claim t line p (trials.bytes m bs) e =
+      let f = try-some r (t .count) 0 (t .start) m bs e in
+      record {
+        first = p;
+        trial = f .at;
+        asked = f .inside;
+        count = f .counted ∙ omega arith;
+        bytes = f .listed;
+        differ = subst (λ (xs : List ℕ). resultAt r xs ≢ joinedAt r xs) (sym (f .listed))
+            (told-differ (trialAt r (t .start) (f .at)) (f .differs));
+        before = λ i l. told-same (trialAt r (t .start) i) (f .before i l);
+      }
+
   -- the outcome of an accepted text claims what holds of its routine
-  pub judge-claims : Claims r (judgeRoutine r)
+  pub judge-claims : (t : Trials) → Claims t r (judgeRoutine t r)
   unfolding settled
-  judge-claims = subst (Claims r) (sym (judge-settled r)) (go (unknownLine r (symbolic r)) refl)
+  judge-claims t = subst (Claims t r) (sym (judge-settled t r)) (go (unknownLine r (symbolic r)) refl)
     where
-      go : (o : Option ℕ) → unknownLine r (symbolic r) ≡ o → Claims r (settled r o (difference r))
-      go none e = decided-claims (line-none r e) (difference r) refl
-      go (some line) e = line-some r line e
+      go : (o : Option ℕ) → unknownLine r (symbolic r) ≡ o → Claims t r (settled t r o (difference r))
+      go none e = decided-claims t (line-none r e) (difference r) refl
+      go (some line) e = trials-claim t line (line-some r line e) (try r (t .count) (t .start)) refl
 
   -- ---- THEOREM: no other outcome does
 
@@ -163,31 +206,65 @@ module _ (r : Routine) (F : Formed r) where
   equal-differs : {i j n : ℕ} {bs : List ℕ} → Equals r i → Differing r n j bs → ⊥
   equal-differs {bs = bs} e d = d .differ (equivalent-agrees r F (e .equivalent) bs (d .bytes))
 
-  decided-unknown : {line : ℕ} → Decided r → Unknowns r line → ⊥
+  decided-unknown : {line : ℕ} → Decided r → FirstPlace r line → ⊥
   decided-unknown d u = d (u .at) (u .given .inside) (u .given .over)
 
+  place-same : {l m : ℕ} → FirstPlace r l → FirstPlace r m → l ≡ m
+  place-same h k =
+      sym (h .lined)
+      ∙ ap (λ (a : ℕ). stepAt (placesOf r) a .line)
+      (first-one (mostTerms r) (standing r (placesOf r)) (placesOf r) (h .at) (k .at) (h .given) (k .given))
+      ∙ k .lined
+
+  -- a trial that differs is none of those that agree
+  later : (start k n : ℕ) → resultAt r (trialAt r start k) ≢ joinedAt r (trialAt r start k)
+      → TrialsAgree r start n → n ≤ k
+  later start k n d a = go (decLe n k)
+    where
+      go : Dec (n ≤ k) → n ≤ k
+      go (yes h) = h
+      go (no h) = absurd (d (a k (omega arith)))
+
+  differ-at : {t : Trials} {l m : ℕ} {bs : List ℕ} (f : Finds t r l m bs)
+      → resultAt r (trialAt r (t .start) (f .trial)) ≢ joinedAt r (trialAt r (t .start) (f .trial))
+  differ-at f = subst (λ (xs : List ℕ). resultAt r xs ≢ joinedAt r xs) (f .bytes) (f .differ)
+
   -- two outcomes that claim what holds of a routine are the same
-  pub claims-unique : (o p : Outcome) → Claims r o → Claims r p → o ≡ p
-  claims-unique (refused n l) p h k = absurd h
-  claims-unique (equal i) (refused n l) h k = absurd k
-  claims-unique (equal i) (equal j) h k = ap equal (tally-unique (h .idled) (k .idled))
-  claims-unique (equal i) (differs n j bs) h k = absurd (equal-differs h k)
-  claims-unique (equal i) (unknown l) h k = absurd (decided-unknown (h .counted) k)
-  claims-unique (differs n i bs) (refused m l) h k = absurd k
-  claims-unique (differs n i bs) (equal j) h k = absurd (equal-differs k h)
-  claims-unique (differs n i bs) (differs m j cs) h k =
+  pub claims-unique : (t : Trials) (o p : Outcome) → Claims t r o → Claims t r p → o ≡ p
+  claims-unique t (refused n l) p h k = absurd h
+  claims-unique t (equal i) (refused n l) h k = absurd k
+  claims-unique t (equal i) (equal j) h k = ap equal (tally-unique (h .idled) (k .idled))
+  claims-unique t (equal i) (differs n j bs) h k = absurd (equal-differs h k)
+  claims-unique t (equal i) (unknown l m) h k = absurd (decided-unknown (h .counted) (k .first))
+  claims-unique t (equal i) (found l m bs) h k = absurd (decided-unknown (h .counted) (k .first))
+  claims-unique t (differs n i bs) (refused m l) h k = absurd k
+  claims-unique t (differs n i bs) (equal j) h k = absurd (equal-differs k h)
+  claims-unique t (differs n i bs) (differs m j cs) h k =
       let e : n ≡ m = h .termed ∙ sym (k .termed) in
       let f : i ≡ j = tally-unique (h .idled) (k .idled) in
       let g : bs ≡ cs = first-same h (some-term h) ∙ sym (first-same k (some-term k)) in
       cc
-  claims-unique (differs n i bs) (unknown l) h k = absurd (decided-unknown (h .counted) k)
-  claims-unique (unknown l) (refused n m) h k = absurd k
-  claims-unique (unknown l) (equal j) h k = absurd (decided-unknown (k .counted) h)
-  claims-unique (unknown l) (differs n j bs) h k = absurd (decided-unknown (k .counted) h)
-  claims-unique (unknown l) (unknown m) h k =
-      let e : h .at ≡ k .at =
-      first-one (mostTerms r) (standing r (placesOf r)) (placesOf r) (h .at) (k .at) (h .given) (k .given) in
-      let f : l ≡ m = sym (h .lined) ∙ ap (λ (a : ℕ). stepAt (placesOf r) a .line) e ∙ k .lined in
+  claims-unique t (differs n i bs) (unknown l m) h k = absurd (decided-unknown (h .counted) (k .first))
+  claims-unique t (differs n i bs) (found l m cs) h k = absurd (decided-unknown (h .counted) (k .first))
+  claims-unique t (unknown l m) (refused n q) h k = absurd k
+  claims-unique t (unknown l m) (equal j) h k = absurd (decided-unknown (k .counted) (h .first))
+  claims-unique t (unknown l m) (differs n j bs) h k = absurd (decided-unknown (k .counted) (h .first))
+  claims-unique t (unknown l m) (unknown q n) h k =
+      ap₂ unknown (place-same (h .first) (k .first)) (h .all ∙ sym (k .all))
+  claims-unique t (unknown l m) (found q n bs) h k =
+      let c = later (t .start) (k .trial) (t .count) (differ-at k) (h .agree) in absurd (omega (arith, c, k .asked))
+  claims-unique t (found l m bs) (refused n q) h k = absurd k
+  claims-unique t (found l m bs) (equal j) h k = absurd (decided-unknown (k .counted) (h .first))
+  claims-unique t (found l m bs) (differs n j cs) h k = absurd (decided-unknown (k .counted) (h .first))
+  claims-unique t (found l m bs) (unknown q n) h k =
+      let c = later (t .start) (h .trial) (t .count) (differ-at h) (k .agree) in absurd (omega (arith, c, h .asked))
+  claims-unique t (found l m bs) (found q n cs) h k =
+      let a : l ≡ q = place-same (h .first) (k .first) in
+      let b = later (t .start) (h .trial) (k .trial) (differ-at h) (k .before) in
+      let d = later (t .start) (k .trial) (h .trial) (differ-at k) (h .before) in
+      let i : h .trial ≡ k .trial = omega (arith, b, d) in
+      let j : m ≡ n = h .count ∙ ap suc i ∙ sym (k .count) in
+      let g : bs ≡ cs = h .bytes ∙ ap (trialAt r (t .start)) i ∙ sym (k .bytes) in
       cc
 
 -- ---- what follows
@@ -198,6 +275,13 @@ within-sum [] [] h = (omega arith, refl)
 within-sum [] (b ∷ bs) h = absurd h
 within-sum (d ∷ ds) [] h = absurd h
 within-sum (d ∷ ds) (b ∷ bs) h = let k = within-sum ds bs (h .1) in (omega (arith, h .0, k .0), ap suc (k .1))
+
+-- THEOREM: found names bytes, one for each variable
+pub finds-bytes : {t : Trials} {r : Routine} {l m : ℕ} {bs : List ℕ} → Finds t r l m bs → ByteList (r .variables) bs
+unfolding trialAt
+finds-bytes {t} {r} f =
+    subst (ByteList (r .variables)) (sym (f .bytes))
+    (trial-bytes (r .variables) (trials.numberAt (r .variables) (t .start) (f .trial)))
 
 -- THEOREM: tried is at most the sum of the highest powers in the difference plus their number
 pub tried-bounded : {r : Routine} {n i : ℕ} {bs : List ℕ} → Differing r n i bs

@@ -4,7 +4,7 @@
 -- Assumes nothing.
 use mathlib.Core.Path.{_≡_}
 use mathlib.Core.Logic.{_≢_}
-use Prim.Native.Nat.{ℕ, _+_, _≤_, _<_}
+use Prim.Native.Nat.{ℕ, suc, _+_, _≤_, _<_}
 use mathlib.Core.Bool.{Bool, true, false}
 use mathlib.Core.List.{List}
 use lib.ListN.{length, getD}
@@ -17,7 +17,9 @@ use Rattle.verdict.specs.Equivalent.{Equivalent}
 use Rattle.verdict.specs.Run.{resultAt, joinedAt}
 use Rattle.verdict.specs.Count.{Step, stepAt, steps, standing, mostTerms, Over, First}
 use Rattle.verdict.specs.Idle.{IdleInputs}
-use Rattle.verdict.specs.Judge.{Outcome, refused, equal, differs, unknown, workBytes}
+use Rattle.verdict.specs.declared.report.Trials.{Trials}
+use Rattle.verdict.specs.Trials.{trialAt}
+use Rattle.verdict.specs.Judge.{Outcome, refused, equal, differs, unknown, found, workBytes}
 
 -- the places that the count goes through
 unfoldable pub placesOf : Routine → List Step
@@ -58,44 +60,70 @@ pub record Differing (r : Routine) (terms i : ℕ) (bs : List ℕ) : Type 0 wher
 abbrev pub Listed : Routine → Report → List ℕ → Type 0
 Listed r a bs = Differing r (a .terms) (a .idle) bs × (a .tried ≡ sum bs + length bs)
 
--- unknown: the line is that of the first place over the limit
-pub record Unknowns (r : Routine) (line : ℕ) : Type 0 where
+-- the line is that of the first place over the limit
+pub record FirstPlace (r : Routine) (line : ℕ) : Type 0 where
   pub at : ℕ
   pub given : GivenUp r at
   pub lined : stepAt (placesOf r) at .line ≡ line
 
+-- run's two bytes agree on the first n trials
+abbrev pub TrialsAgree : Routine → (start n : ℕ) → Type 0
+TrialsAgree r start n = (i : ℕ) → i < n → resultAt r (trialAt r start i) ≡ joinedAt r (trialAt r start i)
+
+-- unknown: the line is that of the first place over the limit, and all trials that were asked for agree
+pub record Unknowns (t : Trials) (r : Routine) (line made : ℕ) : Type 0 where
+  pub first : FirstPlace r line
+  pub agree : TrialsAgree r (t .start) (t .count)
+  pub all : made ≡ t .count
+
+-- found: the line is that of the first place over the limit; the bytes are those of the last trial made, run's two
+-- bytes differ on them, and agree on all trials before
+pub record Finds (t : Trials) (r : Routine) (line made : ℕ) (bs : List ℕ) : Type 0 where
+  pub first : FirstPlace r line
+  pub trial : ℕ
+  pub asked : trial < t .count
+  pub count : made ≡ suc trial
+  pub bytes : bs ≡ trialAt r (t .start) trial
+  pub differ : resultAt r bs ≢ joinedAt r bs
+  pub before : TrialsAgree r (t .start) trial
+
 -- what an outcome claims of an accepted text; it is never refused
-abbrev pub Claims : Routine → Outcome → Type 0
-Claims r (refused number line) = ⊥
-Claims r (equal i) = Equals r i
-Claims r (differs n i bs) = Differing r n i bs
-Claims r (unknown line) = Unknowns r line
+abbrev pub Claims : Trials → Routine → Outcome → Type 0
+Claims t r (refused number line) = ⊥
+Claims t r (equal i) = Equals r i
+Claims t r (differs n i bs) = Differing r n i bs
+Claims t r (unknown line made) = Unknowns t r line made
+Claims t r (found line made bs) = Finds t r line made bs
 
 -- what an outcome claims of a text, by what reading it gives: its refusal, or the claims on its routine
-abbrev pub ClaimsOf : Reading → Outcome → Type 0
-ClaimsOf (Reading.refused number line) o = o ≡ refused number line
-ClaimsOf (Reading.accepted r) o = Claims r o
+abbrev pub ClaimsOf : Trials → Reading → Outcome → Type 0
+ClaimsOf t (Reading.refused number line) o = o ≡ refused number line
+ClaimsOf t (Reading.accepted r) o = Claims t r o
 
--- what an outcome claims of a text where some lent buffer is too short, or none: refusal 1, or the claims on the text
-abbrev pub ClaimsIn : Bool → Reading → Outcome → Type 0
-ClaimsIn true g o = o ≡ refused 1 0
-ClaimsIn false g o = ClaimsOf g o
+-- what an outcome claims of a text, by whether some lent buffer is too short and too many trials are asked for:
+-- refusal 1, then refusal 14, else the claims on the text
+abbrev pub ClaimsIn : (short many : Bool) → Trials → Reading → Outcome → Type 0
+ClaimsIn true many t g o = o ≡ refused 1 0
+ClaimsIn false true t g o = o ≡ refused 14 0
+ClaimsIn false false t g o = ClaimsOf t g o
 
--- the number and line with which a text is refused: 1 where a buffer is too short, else reading's
-abbrev pub RefusedAs : Bool → Reading → (number line : ℕ) → Type 0
-RefusedAs true g number line = (number ≡ 1) × (line ≡ 0)
-RefusedAs false (Reading.refused n l) number line = (number ≡ n) × (line ≡ l)
-RefusedAs false (Reading.accepted r) number line = ⊥
+-- the number and line with which a text is refused: 1 where a buffer is too short, 14 where too many trials are asked
+-- for, else reading's
+abbrev pub RefusedAs : (short many : Bool) → Reading → (number line : ℕ) → Type 0
+RefusedAs true many g number line = (number ≡ 1) × (line ≡ 0)
+RefusedAs false true g number line = (number ≡ 14) × (line ≡ 0)
+RefusedAs false false (Reading.refused n l) number line = (number ≡ n) × (line ≡ l)
+RefusedAs false false (Reading.accepted r) number line = ⊥
 
 -- ---- the lent buffers, byte by byte
 
--- a work buffer after equal, differs and unknown: the first 65,280 bytes are zero, every other byte is unchanged
+-- a work buffer after equal, differs, unknown and found: the first 65,280 bytes are zero, every other byte is unchanged
 pub record Cleared (w w′ : List ℕ) : Type 0 where
   pub size : length w′ ≡ length w
   pub front : (i : ℕ) → i < workBytes → getD w′ i 0 ≡ 0
   pub behind : (i : ℕ) → workBytes ≤ i → getD w′ i 0 ≡ getD w i 0
 
--- the byte list after differs: every byte behind the first n is unchanged
+-- the byte list after differs and found: every byte after the first n is unchanged
 pub record KeptBehind (n : ℕ) (l l′ : List ℕ) : Type 0 where
   pub size : length l′ ≡ length l
   pub behind : (i : ℕ) → n ≤ i → getD l′ i 0 ≡ getD l i 0

@@ -1,13 +1,14 @@
 //! Writes what the program `vectors` reads, and the lines that it must print. Each line comes from
-//! the independent judge; where a text has a stored line, both must agree, apart from idle and the
-//! bytes of formulas: the stored lines count the inputs that are not read, and refuse ( ) and
-//! comma by 3.
+//! the independent judge; where a text has a stored line, both must agree, apart from idle, the
+//! bytes of formulas and trials: the stored lines count the inputs that are not read, refuse ( ) and
+//! comma by 3, and try nothing where the verdict is unknown.
 
 use bench_tests::examples::examples;
 use bench_tests::grammar::is_allowed;
 use bench_tests::judge::judge;
 use bench_tests::printed::{handed_text, lines, sbox_text, tables};
-use bench_tests::texts::{faults, lets, limits, standing};
+use bench_tests::texts::{faults, lets, limits, standing, unknown};
+use bench_tests::trials::{self, Trials};
 use std::fs;
 use std::io;
 use std::path::{Path, PathBuf};
@@ -22,10 +23,11 @@ const LONGEST_STORED: u64 = 8_192;
 /// The place of idle among the fields of a line.
 const IDLE: usize = 5;
 
-/// A text with its name, and the line stored beside it.
+/// A text with its name, the trials that are asked for, and the line stored beside it.
 struct Case {
     name: String,
     text: Vec<u8>,
+    trials: Trials,
     stored: Option<String>,
 }
 
@@ -61,8 +63,8 @@ fn folders_of(words: Vec<String>) -> Option<Folders> {
     (words.len() == 4).then_some(Folders { corpus, out })
 }
 
-/// Writes both files; answers how many stored lines disagree with the judge in more than idle and
-/// the bytes of formulas.
+/// Writes both files; answers how many stored lines disagree with the judge in more than idle, the
+/// bytes of formulas and trials.
 fn write_all(folders: &Folders) -> io::Result<usize> {
     let mut cases = written_cases();
     for folder in ["gadgets", "damaged"] {
@@ -72,31 +74,37 @@ fn write_all(folders: &Folders) -> io::Result<usize> {
     let mut counts = Counts::default();
     for (at, case) in cases.iter().enumerate() {
         counts.add(case);
-        let header = format!("{}\t{}\n", case.name, case.text.len());
+        let (size, trials) = (case.text.len(), case.trials);
+        let header = format!(
+            "{}\t{size}\t{}\t{}\n",
+            case.name, trials.count, trials.start
+        );
         texts.extend_from_slice(header.as_bytes());
         texts.extend_from_slice(&case.text);
         texts.push(b'\n');
-        printed.push_str(&lines(at, &case.name, &case.text));
+        printed.push_str(&lines(at, &case.name, &case.text, trials));
     }
     fs::create_dir_all(&folders.out)?;
     fs::write(folders.out.join("stdin"), &texts)?;
     fs::write(folders.out.join("stdout"), printed)?;
     print!("{} cases, {} bytes; ", cases.len(), texts.len());
     println!(
-        "{} stored lines, {} of them disagree, {} in idle alone, {} in the bytes of formulas alone",
-        counts.stored, counts.wrong, counts.idle, counts.marks
+        "{} stored lines, {} of them disagree, {} in idle alone, {} in the bytes of formulas alone, \
+         {} in trials",
+        counts.stored, counts.wrong, counts.idle, counts.marks, counts.trials
     );
     Ok(counts.wrong)
 }
 
 /// How many lines are stored, and how many of them are not what the judge answers: in more than
-/// what was requested later, in idle alone, and in the bytes of formulas alone.
+/// what was requested later, in idle alone, in the bytes of formulas alone, and in trials.
 #[derive(Default)]
 struct Counts {
     stored: usize,
     wrong: usize,
     idle: usize,
     marks: usize,
+    trials: usize,
 }
 
 impl Counts {
@@ -114,6 +122,8 @@ impl Counts {
             self.idle += 1;
         } else if refuses_allowed(&case.text, stored) {
             self.marks += 1;
+        } else if given_up(stored).is_some_and(|at| Some(at) == given_up(&line)) {
+            self.trials += 1;
         } else {
             eprint!("{}: judged {line}", case.name);
             self.wrong += 1;
@@ -133,6 +143,14 @@ fn refuses_allowed(text: &[u8], stored: &str) -> bool {
     })
 }
 
+/// The line at which a text was given up: of unknown, and of found.
+fn given_up(line: &str) -> Option<&str> {
+    match line.split('\t').collect::<Vec<&str>>()[..] {
+        ["unknown" | "found", "0", at, ..] => Some(at),
+        _ => None,
+    }
+}
+
 /// The fields of a line, apart from idle.
 fn without_idle(line: &str) -> Vec<&str> {
     let mut fields: Vec<&str> = line.split('\t').collect();
@@ -142,7 +160,7 @@ fn without_idle(line: &str) -> Vec<&str> {
     fields
 }
 
-/// The S-box, the text that is handed out, the examples, the limits and the faults.
+/// The S-box, the text that is handed out, the examples, the limits, the faults and the trials.
 fn written_cases() -> Vec<Case> {
     let first = [
         ("sbox".to_string(), sbox_text()),
@@ -166,9 +184,12 @@ fn written_cases() -> Vec<Case> {
         .chain(pairs)
         .chain(formulas)
         .chain(faults::every_byte())
-        .map(|(name, text)| Case {
+        .map(|(name, text)| (name, text, trials::DEFAULT))
+        .chain(unknown::cases())
+        .map(|(name, text, trials)| Case {
             name,
             text,
+            trials,
             stored: None,
         })
         .collect()
@@ -190,6 +211,7 @@ fn stored_cases(corpus: &Path, folder: &str) -> io::Result<Vec<Case>> {
         Ok(Case {
             name: format!("{folder}_{stem}"),
             text: fs::read(&path)?,
+            trials: trials::DEFAULT,
             stored: fs::read_to_string(path.with_extension("line")).ok(),
         })
     };

@@ -15,4 +15,5 @@ pub mod names;
 pub mod pairing;
 pub mod roots;
 pub mod standing;
+pub mod unknown;
 pub mod worst;

@@ -1,15 +1,15 @@
--- `vectors::stored::number` meets its contract. Assumes nothing.
+-- `vectors::stored::value` meets its contract. Assumes nothing.
 use borrow.Author.Needs.{needs}
 use Prim.Native.Nat.{_≤_, _<_, _-_}
 use lib.ListN.{length}
-use Rattle.vectors.proofs.stored.number.Statement.{statement}
-use Rattle.vectors.proofs.stored.number.Tie as tie
+use Rattle.vectors.proofs.stored.value.Statement.{statement}
+use Rattle.vectors.proofs.stored.value.Tie as tie
 
 abbrev Inv-loop : tie.InvT-loop
-Inv-loop line n₀ i₀ n i = (n < 1000000) × (i ≤ length line)
+Inv-loop digits n₀ i₀ n i = (n < 4294967296) × (i ≤ length digits)
 
 abbrev μ-loop : tie.MeasureT-loop
-μ-loop line n₀ i₀ n i = length line - i
+μ-loop digits n₀ i₀ n i = length digits - i
 
 loop-holds : tie.Need-loop-holds Inv-loop μ-loop
 loop-holds c = search needs
@@ -29,11 +29,14 @@ loop-less c = search needs
 loop-again : tie.Need-loop-again Inv-loop μ-loop
 loop-again c = search needs
 
+cast-result : tie.Need-cast-result Inv-loop μ-loop
+cast-result c = search needs
+
 returns : tie.Need-returns Inv-loop μ-loop
 returns c = search needs
 
-pub number-spec : {M : Type 1} → statement M
-number-spec =
+pub value-spec : {M : Type 1} → statement M
+value-spec =
     tie.close
     (tie.spec
     Inv-loop
@@ -44,4 +47,5 @@ number-spec =
     add-i
     loop-less
     loop-again
+    cast-result
     returns)
