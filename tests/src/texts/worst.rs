@@ -197,6 +197,19 @@ pub fn wide_image() -> Draft {
     draft
 }
 
+/// 256 statements of 16 variables that are given up at the third, and whose two results agree on
+/// every trial.
+pub fn most_trials() -> Draft {
+    let mut draft = Draft::of("shares 8");
+    draft.add(&map_line("f", &FIPS));
+    draft.add_lines("input a\ninput b\norigin\nmul c a a\nmul d c a\nmul e d d\nset z #00");
+    draft.add_lines("result z\nmasked\nset t0 b.0");
+    (1..=243).for_each(|at| draft.add(&format!("app t{at} f t{}", at - 1)));
+    (0..8).for_each(|share| draft.add(&format!("set o.{share} #00")));
+    draft.add("output o.0 o.1 o.2 o.3 o.4 o.5 o.6 o.7");
+    draft
+}
+
 /// All worst texts with their names.
 pub fn all() -> Vec<(&'static str, Draft)> {
     vec![
@@ -214,6 +227,7 @@ pub fn all() -> Vec<(&'static str, Draft)> {
         ("256 statements", most_statements()),
         ("255 operations in one formula", lets::longest()),
         ("images of 64 terms", wide_image()),
+        ("256 trials of 256 statements", most_trials()),
     ]
 }
 
@@ -224,8 +238,15 @@ mod tests {
     use crate::report::Verdict;
 
     #[test]
-    fn the_worst_texts_are_decided() {
-        for (name, draft) in all() {
+    fn all_but_the_trials_are_decided() {
+        let mut all = all();
+        let (name, tried) = all.pop().unwrap();
+        assert_eq!(
+            judge(&tried.text()).line(),
+            "unknown\t0\t8\t0\t256\t0\n",
+            "{name}"
+        );
+        for (name, draft) in all {
             let judgement = judge(&draft.text());
             let verdict = judgement.report.verdict;
             let decided = matches!(verdict, Verdict::Equal | Verdict::Differs);
