@@ -19,8 +19,8 @@ back at t p = take at t ++ (p ++ drop (length t - at) (drop at t))
 module _ (at n : ℕ) (t p : List ℕ) (inside : at ≤ length t)
     (lent : length p ≡ length (take (length t - at) (drop at t)))
     (whole : length (back at t p) ≡ length t) (came : n ≤ length p) where
-  pub filled-le : at + n ≤ length (back at t p)
-  filled-le =
+  pub filled_le : at + n ≤ length (back at t p)
+  filled_le =
       let d : length (drop at t) ≡ length t - at = length-drop at t in
       let l : length (take (length t - at) (drop at t))
       ≡ length t - at = length-take-le (length t - at) (drop at t) (omega arith) in
@@ -28,4 +28,4 @@ module _ (at n : ℕ) (t p : List ℕ) (inside : at ≤ length t)
       rw whole m
 
   pub filled-less : (n ≡ 0 → ⊥) → length (back at t p) - (at + n) < length t - at
-  filled-less h = let m : at + n ≤ length t = rw whole at filled-le in rw whole (omega arith)
+  filled-less h = let m : at + n ≤ length t = rw whole at filled_le in rw whole (omega arith)

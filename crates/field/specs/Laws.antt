@@ -17,7 +17,7 @@ pub record Ring (F : Ops) : Type 0 where
   pub add_comm : (a b : ℕ) → F.add a b ≡ F.add b a
   pub add_assoc : (a b c : ℕ) → F.add (F.add a b) c ≡ F.add a (F.add b c)
   pub add-zero : (a : ℕ) → F.add a 0 ≡ a
-  pub add-self : (a : ℕ) → F.add a a ≡ 0
+  pub add_self : (a : ℕ) → F.add a a ≡ 0
   pub mul-byte : (a b : ℕ) → F.mul a b < 256
   pub mul_comm : (a b : ℕ) → F.mul a b ≡ F.mul b a
   pub mul_assoc : (a b c : ℕ) → F.mul (F.mul a b) c ≡ F.mul a (F.mul b c)
@@ -28,7 +28,7 @@ pub record Ring (F : Ops) : Type 0 where
 pub record Laws (F : Ops) : Type 0 where
   pub ring : Ring F
   pub no_zero : (a b : ℕ) → a < 256 → b < 256 → a ≢ 0 → F.mul a b ≡ 0 → b ≡ 0
-  pub eight-squares : (a : ℕ) → a < 256 → squared F.mul 8 a ≡ a
+  pub eight_squares : (a : ℕ) → a < 256 → squared F.mul 8 a ≡ a
 
 -- bytes with ⊕ and some multiplication
 abbrev pub over : (ℕ → ℕ → ℕ) → Ops

@@ -40,20 +40,20 @@ unfoldable pub coefficients : (ℕ → ℕ → ℕ) → List ℕ → List ℕ �
 coefficients mul dual columns = list_of 8 (coefficient mul dual columns)
 
 -- the columns that a list of coefficients has
-unfoldable pub columnsOf : (ℕ → ℕ → ℕ) → List ℕ → List ℕ
-columnsOf mul l = list_of 8 (λ i. series mul l (2 ^ i))
+unfoldable pub columns_of : (ℕ → ℕ → ℕ) → List ℕ → List ℕ
+columns_of mul l = list_of 8 (λ i. series mul l (2 ^ i))
 
-pickList : Bool → List ℕ → List ℕ → List ℕ
-pickList true a b = a
-pickList false a b = b
+pick_list : Bool → List ℕ → List ℕ → List ℕ
+pick_list true a b = a
+pick_list false a b = b
 
 -- the dual bytes of 1, 2, 4, .. 128 for the modulus 29, and for 27
-unfoldable pub dualOf : ℕ → List ℕ
-unfolding pickList
-dualOf m =
-    pickList (eqb m 29) (173 ∷ 216 ∷ 193 ∷ 67 ∷ 2 ∷ 1 ∷ 142 ∷ 71 ∷ [])
+unfoldable pub dual_of : ℕ → List ℕ
+unfolding pick_list
+dual_of m =
+    pick_list (eqb m 29) (173 ∷ 216 ∷ 193 ∷ 67 ∷ 2 ∷ 1 ∷ 142 ∷ 71 ∷ [])
     (41 ∷ 176 ∷ 88 ∷ 5 ∷ 166 ∷ 83 ∷ 164 ∷ 82 ∷ [])
 
 -- the coefficients of the map with these columns, over the modulus m
-unfoldable pub coefficientsOf : ℕ → List ℕ → List ℕ
-coefficientsOf m columns = coefficients (times m) (dualOf m) columns
+unfoldable pub coefficients_of : ℕ → List ℕ → List ℕ
+coefficients_of m columns = coefficients (times m) (dual_of m) columns

@@ -1,7 +1,7 @@
 // The field of 256 elements, over the low byte m of its modulus, and affine maps on it.
 ghost use Rattle.std.specs.Prelude.{◌≡◌, ◌<◌, get_or};
 ghost use Rattle.field.specs.Field.{double, times, power, squared};
-ghost use Rattle.field.specs.Maps.{list_of, affine, dualOf, coefficient, coefficientsOf};
+ghost use Rattle.field.specs.Maps.{list_of, affine, dual_of, coefficient, coefficients_of};
 
 // a times 2: the bits move up by one, and bit 7 comes back as m.
 pub fn doubled(m: u8, a: u8) -> u8
@@ -86,7 +86,7 @@ const DUAL_1D: [u8; 8] = [173, 216, 193, 67, 2, 1, 142, 71];
 // The dual byte of 2 to the power i.
 fn dual(m: u8, i: usize) -> u8
     requires { i < 8 }
-    ensures { result ≡ get_or (dualOf m) i 0 }
+    ensures { result ≡ get_or (dual_of m) i 0 }
 {
     if m == 29 { DUAL_1D[i] } else { DUAL_1B[i] }
 }
@@ -106,7 +106,7 @@ const SQUARED_1B: [[u8; 8]; 8] = [
 // The dual byte of 2 to the power i, squared j times.
 fn dual_squared(m: u8, i: usize, j: usize) -> u8
     requires { i < 8 }
-    ensures { result ≡ squared (times m) j (get_or (dualOf m) i 0) }
+    ensures { result ≡ squared (times m) j (get_or (dual_of m) i 0) }
 {
     if m == 27 {
         if j < 8 {
@@ -131,7 +131,7 @@ pub fn squares(m: u8, a: u8, j: usize) -> u8
 
 // Coefficient j of the map with these columns.
 pub fn coefficient(m: u8, columns: [u8; 8], j: usize) -> u8
-    ensures { result ≡ coefficient (times m) (dualOf m) columns j }
+    ensures { result ≡ coefficient (times m) (dual_of m) columns j }
 {
     let mut sum: u8 = 0;
     let mut i: usize = 0;
@@ -144,7 +144,7 @@ pub fn coefficient(m: u8, columns: [u8; 8], j: usize) -> u8
 
 // The eight coefficients of the map with these columns.
 pub fn coefficients(m: u8, columns: [u8; 8]) -> [u8; 8]
-    ensures { result ≡ coefficientsOf m columns }
+    ensures { result ≡ coefficients_of m columns }
 {
     let mut out: [u8; 8] = [0; 8];
     let mut j: usize = 0;

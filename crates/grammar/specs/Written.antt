@@ -2,17 +2,17 @@
 use Rattle.std.specs.Prelude.{ℕ, List, [], ◌∷◌}
 use Rattle.tokens.specs.Ascii.{ascii, tab}
 use Rattle.tokens.specs.Token.{Name}
-use Rattle.tokens.specs.Written.{writtenName, writtenTerm, joinedBy}
+use Rattle.tokens.specs.Written.{written_name, written_term, joined_by}
 use Rattle.grammar.specs.Record.{Form, set, xor, mul, app, rand}
 
 -- the word and the fields of a statement that gives the name n
-unfoldable pub writtenFields : Name → Form → List (List ℕ)
-writtenFields n (set a) = ascii "set" ∷ writtenName n ∷ writtenTerm a ∷ []
-writtenFields n (xor a b) = ascii "xor" ∷ writtenName n ∷ writtenTerm a ∷ writtenTerm b ∷ []
-writtenFields n (mul a b) = ascii "mul" ∷ writtenName n ∷ writtenTerm a ∷ writtenTerm b ∷ []
-writtenFields n (app f a) = ascii "app" ∷ writtenName n ∷ writtenName f ∷ writtenTerm a ∷ []
-writtenFields n rand = ascii "rand" ∷ writtenName n ∷ []
+unfoldable pub written_fields : Name → Form → List (List ℕ)
+written_fields n (set a) = ascii "set" ∷ written_name n ∷ written_term a ∷ []
+written_fields n (xor a b) = ascii "xor" ∷ written_name n ∷ written_term a ∷ written_term b ∷ []
+written_fields n (mul a b) = ascii "mul" ∷ written_name n ∷ written_term a ∷ written_term b ∷ []
+written_fields n (app f a) = ascii "app" ∷ written_name n ∷ written_name f ∷ written_term a ∷ []
+written_fields n rand = ascii "rand" ∷ written_name n ∷ []
 
 -- its line
-unfoldable pub writtenLine : Name → Form → List ℕ
-writtenLine n f = joinedBy tab (writtenFields n f)
+unfoldable pub written_line : Name → Form → List ℕ
+written_line n f = joined_by tab (written_fields n f)

@@ -1,14 +1,14 @@
 // A formula on one line, read where it stands: its form at any depth, how deep it nests, and how
 // many operations it has.
 ghost use Rattle.std.specs.Prelude.{◌≡◌, ◌+◌, ◌-◌, ◌≤◌, length, take, drop};
-ghost use Rattle.tokens.specs.Ascii.{isMark};
+ghost use Rattle.tokens.specs.Ascii.{is_mark};
 ghost use Rattle.tokens.specs.Split.{until};
-ghost use Rattle.tokens.specs.Token.{is_some, readTerm, readPlain};
-ghost use Rattle.grammar.specs.Line.{Inside, piecesIn};
-ghost use Rattle.grammar.specs.Formula.{operationOf, operationAt, front, readFormula};
+ghost use Rattle.tokens.specs.Token.{is_some, read_term, read_plain};
+ghost use Rattle.grammar.specs.Line.{Inside, pieces_in};
+ghost use Rattle.grammar.specs.Formula.{operation_of, operation_at, front, read_formula};
 ghost use Rattle.grammar.specs.Formula as formula;
-ghost use Rattle.grammar.specs.Recorded.{formulaOf};
-ghost use Rattle.grammar.specs.Measured.{leaf, standsAt, passedOver, joinedOf};
+ghost use Rattle.grammar.specs.Recorded.{formula_of};
+ghost use Rattle.grammar.specs.Measured.{leaf, stands_at, passed_over, joined_of};
 ghost use Rattle.grammar.specs.Measured.{FormulaIs, Joins, MeasureIs};
 
 use crate::line::Line;
@@ -41,7 +41,7 @@ pub struct FormulaRead {
 // The formula of a line.
 pub fn line_formula(s: &[u8], l: Line) -> FormulaRead
     requires { Inside s.now l }
-    ensures { MeasureIs result (formulaOf (piecesIn s.now l)) }
+    ensures { MeasureIs result (formula_of (pieces_in s.now l)) }
 {
     if record::fits_word(s, l, Word::Let) {
         let f = line::field(s, l, 2);
@@ -52,7 +52,7 @@ pub fn line_formula(s: &[u8], l: Line) -> FormulaRead
 
 // The formula of a field.
 pub fn read_formula(f: &[u8]) -> FormulaRead
-    ensures { MeasureIs result (readFormula f.now) }
+    ensures { MeasureIs result (read_formula f.now) }
 {
     let r = formula(f, 0);
     if r.end == f.len() {
@@ -88,8 +88,8 @@ pub fn formula(f: &[u8], at: usize) -> FormulaRead
 
 // The operation at place `at`, whose first mark is known.
 pub fn operation_at(f: &[u8], at: usize, mark: usize) -> Operation
-    requires { (at ≤ length f.now) × (mark ≡ at + until isMark (drop at f.now)) }
-    ensures { result ≡ operationAt (drop at f.now) }
+    requires { (at ≤ length f.now) × (mark ≡ at + until is_mark (drop at f.now)) }
+    ensures { result ≡ operation_at (drop at f.now) }
 {
     if stands(f, mark, b'(') {
         return operation_of(split::part(f, at, mark - at));
@@ -99,7 +99,7 @@ pub fn operation_at(f: &[u8], at: usize, mark: usize) -> Operation
 
 // The operation that a word before ( is.
 pub fn operation_of(w: &[u8]) -> Operation
-    ensures { result ≡ operationOf w.now }
+    ensures { result ≡ operation_of w.now }
 {
     if bytes::same(w, b"xor") {
         return Operation::Two(Binary::Xor);
@@ -116,7 +116,7 @@ pub fn operation_of(w: &[u8]) -> Operation
 // An operand from place `at` to the mark.
 pub fn operand(f: &[u8], at: usize, mark: usize) -> FormulaRead
     requires { at ≤ mark }
-    ensures { result ≡ leaf (is_some (readTerm (take (mark - at) (drop at f.now))))
+    ensures { result ≡ leaf (is_some (read_term (take (mark - at) (drop at f.now))))
         mark }
 {
     match token::term(split::part(f, at, mark - at)) {
@@ -129,8 +129,8 @@ pub fn operand(f: &[u8], at: usize, mark: usize) -> FormulaRead
 // The name of a map at place `at`, up to the first mark.
 pub fn map_name(f: &[u8], at: usize) -> FormulaRead
     requires { at ≤ length f.now }
-    ensures { result ≡ leaf (is_some (readPlain (front (drop at f.now))))
-        (at + until isMark (drop at f.now)) }
+    ensures { result ≡ leaf (is_some (read_plain (front (drop at f.now))))
+        (at + until is_mark (drop at f.now)) }
 {
     let mark = bytes::find_mark(f, at);
     match token::name(split::part(f, at, mark - at)) {
@@ -142,7 +142,7 @@ pub fn map_name(f: &[u8], at: usize) -> FormulaRead
 // What was read, and behind it the byte m.
 pub fn passed(f: &[u8], r: FormulaRead, m: u8) -> FormulaRead
     requires { r.end ≤ length f.now }
-    ensures { result ≡ passedOver f.now r m }
+    ensures { result ≡ passed_over f.now r m }
 {
     let at = r.end;
     if r.ok {
@@ -162,7 +162,7 @@ pub fn passed(f: &[u8], r: FormulaRead, m: u8) -> FormulaRead
 // An operation on two parts, that ends where b does.
 pub fn joined(a: FormulaRead, b: FormulaRead) -> FormulaRead
     requires { Joins a b }
-    ensures { result ≡ joinedOf a b }
+    ensures { result ≡ joined_of a b }
 {
     let depth = greater(a.depth, b.depth);
     FormulaRead {
@@ -185,7 +185,7 @@ pub fn greater(a: usize, b: usize) -> usize
 
 // The byte m stands at a place.
 pub fn stands(f: &[u8], at: usize, m: u8) -> bool
-    ensures { result ≡ standsAt f.now at m }
+    ensures { result ≡ stands_at f.now at m }
 {
     if at < f.len() {
         return f[at] == m;

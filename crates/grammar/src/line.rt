@@ -1,9 +1,9 @@
 // A line of the text by its place, and its fields, each read by its form.
 ghost use Rattle.std.specs.Prelude.{◌≡◌, ◌+◌, ◌≤◌, length, take, drop};
 ghost use Rattle.tokens.specs.Split.{SpanIs};
-ghost use Rattle.tokens.specs.Token.{readHex, readCount, readName, readPlain, readTerm};
-ghost use Rattle.tokens.specs.Answer.{numberRead};
-ghost use Rattle.grammar.specs.Line.{Inside, fieldIn, name_at, termAt};
+ghost use Rattle.tokens.specs.Token.{read_hex, read_count, read_name, read_plain, read_term};
+ghost use Rattle.tokens.specs.Answer.{number_read};
+ghost use Rattle.grammar.specs.Line.{Inside, field_in, name_at, term_at};
 
 use tokens::bytes::TAB;
 use tokens::limits::NO_PART;
@@ -44,7 +44,7 @@ pub enum TermRead {
 // Where piece k of a line stands in the text.
 pub fn field(s: &[u8], l: Line, k: usize) -> Span
     requires { Inside s.now l }
-    ensures { SpanIs s.now result.at result.len (fieldIn s.now l k) }
+    ensures { SpanIs s.now result.at result.len (field_in s.now l k) }
 {
     let from = l.from;
     let len = l.len;
@@ -58,7 +58,7 @@ pub fn field(s: &[u8], l: Line, k: usize) -> Span
 // Two hex digits in field k.
 pub fn hex_field(s: &[u8], l: Line, k: usize) -> Number
     requires { Inside s.now l }
-    ensures { result ≡ numberRead (readHex (fieldIn s.now l k)) }
+    ensures { result ≡ number_read (read_hex (field_in s.now l k)) }
 {
     let f = field(s, l, k);
     token::hex(split::part(s, f.at, f.len))
@@ -67,7 +67,7 @@ pub fn hex_field(s: &[u8], l: Line, k: usize) -> Number
 // A digit 1 to 8 in field k.
 pub fn count_field(s: &[u8], l: Line, k: usize) -> Number
     requires { Inside s.now l }
-    ensures { result ≡ numberRead (readCount (fieldIn s.now l k)) }
+    ensures { result ≡ number_read (read_count (field_in s.now l k)) }
 {
     let f = field(s, l, k);
     token::count(split::part(s, f.at, f.len))
@@ -76,7 +76,7 @@ pub fn count_field(s: &[u8], l: Line, k: usize) -> Number
 // A name in field k.
 pub fn name_field(s: &[u8], l: Line, k: usize) -> NameRead
     requires { Inside s.now l }
-    ensures { name_at s.now result ≡ readName (fieldIn s.now l k) }
+    ensures { name_at s.now result ≡ read_name (field_in s.now l k) }
 {
     let f = field(s, l, k);
     name_at(s, f.at, f.len)
@@ -85,7 +85,7 @@ pub fn name_field(s: &[u8], l: Line, k: usize) -> NameRead
 // A name without a dot part in field k.
 pub fn plain_field(s: &[u8], l: Line, k: usize) -> NameRead
     requires { Inside s.now l }
-    ensures { name_at s.now result ≡ readPlain (fieldIn s.now l k) }
+    ensures { name_at s.now result ≡ read_plain (field_in s.now l k) }
 {
     match name_field(s, l, k) {
         NameRead::Name(n) => {
@@ -102,7 +102,7 @@ pub fn plain_field(s: &[u8], l: Line, k: usize) -> NameRead
 // An operand in field k.
 pub fn term_field(s: &[u8], l: Line, k: usize) -> TermRead
     requires { Inside s.now l }
-    ensures { termAt s.now result ≡ readTerm (fieldIn s.now l k) }
+    ensures { term_at s.now result ≡ read_term (field_in s.now l k) }
 {
     let f = field(s, l, k);
     term_at(s, f.at, f.len)
@@ -110,7 +110,7 @@ pub fn term_field(s: &[u8], l: Line, k: usize) -> TermRead
 
 // The name of the len bytes at a place of the text: an operand that is no constant.
 pub fn name_at(s: &[u8], at: usize, len: usize) -> NameRead
-    ensures { name_at s.now result ≡ readName (take len (drop at s.now)) }
+    ensures { name_at s.now result ≡ read_name (take len (drop at s.now)) }
 {
     match term_at(s, at, len) {
         TermRead::Name(n) => NameRead::Name(n),
@@ -121,7 +121,7 @@ pub fn name_at(s: &[u8], at: usize, len: usize) -> NameRead
 
 // The operand of the len bytes at a place of the text.
 pub fn term_at(s: &[u8], at: usize, len: usize) -> TermRead
-    ensures { termAt s.now result ≡ readTerm (take len (drop at s.now)) }
+    ensures { term_at s.now result ≡ read_term (take len (drop at s.now)) }
 {
     match token::term(split::part(s, at, len)) {
         TermForm::Name(n, p) => TermRead::Name(NameRef {

@@ -1,8 +1,8 @@
 // The lists of a line: the columns of a map, and the names of an output.
 ghost use Rattle.std.specs.Prelude.{◌≡◌, ◌≤◌, length};
-ghost use Rattle.tokens.specs.Limits.{mostShares};
-ghost use Rattle.grammar.specs.Line.{Inside, piecesIn};
-ghost use Rattle.grammar.specs.Recorded.{columnsIn, columnsOf, OutputsAre, NoOutputs};
+ghost use Rattle.tokens.specs.Limits.{most_shares};
+ghost use Rattle.grammar.specs.Line.{Inside, pieces_in};
+ghost use Rattle.grammar.specs.Recorded.{columns_in, columns_of, OutputsAre, NoOutputs};
 
 use crate::line::{Line, NameRead, NameRef};
 use crate::{line, record};
@@ -20,7 +20,7 @@ pub struct Columns {
 // Reads the columns of a map line.
 pub fn read_columns(s: &[u8], l: Line) -> Columns
     requires { Inside s.now l }
-    ensures { columnsIn result ≡ columnsOf (piecesIn s.now l) }
+    ensures { columns_in result ≡ columns_of (pieces_in s.now l) }
 {
     let mut bytes = [0u8; COLUMNS];
     if !record::fits_word(s, l, Word::Map) {

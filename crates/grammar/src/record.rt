@@ -1,8 +1,8 @@
 // The record of a line: its word, the number of its fields, and the form of each.
 ghost use Rattle.std.specs.Prelude.{◌≡◌, length};
-ghost use Rattle.grammar.specs.Line.{Inside, piecesIn};
-ghost use Rattle.grammar.specs.Record.{mayHave, assigned, operands, image};
-ghost use Rattle.grammar.specs.Recorded.{Reads, recordIn, formAt, binary};
+ghost use Rattle.grammar.specs.Line.{Inside, pieces_in};
+ghost use Rattle.grammar.specs.Record.{may_have, assigned, operands, image};
+ghost use Rattle.grammar.specs.Recorded.{Reads, record_in, form_at, binary};
 
 use crate::line;
 use crate::line::{Line, NameRead, TermRead};
@@ -72,21 +72,21 @@ pub fn record(s: &[u8], l: Line, w: Word) -> Rec
 
 // The line has a number of fields that the word may have.
 pub fn fits_word(s: &[u8], l: Line, w: Word) -> bool
-    ensures { result ≡ mayHave w (length (piecesIn s.now l)) }
+    ensures { result ≡ may_have w (length (pieces_in s.now l)) }
 {
     may_have(w, piece_count(s, l))
 }
 
 // How many pieces the line has, the word among them.
 pub fn piece_count(s: &[u8], l: Line) -> usize
-    ensures { result ≡ length (piecesIn s.now l) }
+    ensures { result ≡ length (pieces_in s.now l) }
 {
     split::count(split::part(s, l.from, l.len), TAB)
 }
 
 // A line of this word may have n pieces, the word among them.
 pub fn may_have(w: Word, n: usize) -> bool
-    ensures { result ≡ mayHave w n }
+    ensures { result ≡ may_have w n }
 {
     match w {
         Word::Shares => n == 2,
@@ -114,8 +114,8 @@ pub fn may_have(w: Word, n: usize) -> bool
 // A statement that gives the name of field 1.
 pub fn assign(s: &[u8], l: Line, f: FormRead) -> Rec
     requires { Inside s.now l }
-    ensures { recordIn s.now (piecesIn s.now l) result
-        ≡ assigned (piecesIn s.now l) (formAt s.now f) }
+    ensures { record_in s.now (pieces_in s.now l) result
+        ≡ assigned (pieces_in s.now l) (form_at s.now f) }
 {
     Rec::Assign(line::name_field(s, l, 1), f)
 }
@@ -123,8 +123,8 @@ pub fn assign(s: &[u8], l: Line, f: FormRead) -> Rec
 // `xor` or `mul` on two operands.
 pub fn two_form(s: &[u8], l: Line, f: Binary) -> FormRead
     requires { Inside s.now l }
-    ensures { formAt s.now result
-        ≡ operands (binary f) (piecesIn s.now l) }
+    ensures { form_at s.now result
+        ≡ operands (binary f) (pieces_in s.now l) }
 {
     FormRead::Two(f, line::term_field(s, l, 2), line::term_field(s, l, 3))
 }
@@ -132,7 +132,7 @@ pub fn two_form(s: &[u8], l: Line, f: Binary) -> FormRead
 // A map on an operand.
 pub fn app_form(s: &[u8], l: Line) -> FormRead
     requires { Inside s.now l }
-    ensures { formAt s.now result ≡ image (piecesIn s.now l) }
+    ensures { form_at s.now result ≡ image (pieces_in s.now l) }
 {
     FormRead::App(line::plain_field(s, l, 2), line::term_field(s, l, 3))
 }

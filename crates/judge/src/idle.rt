@@ -1,9 +1,9 @@
 // Idle inputs: those of which no share has a power above 0 in any term of the original's result.
 ghost use Rattle.std.specs.Prelude.{◌≡◌, ℕ, ◌+◌, ◌*◌};
-ghost use Rattle.poly.specs.Occurs.{occurs, someOccurs};
+ghost use Rattle.poly.specs.Occurs.{occurs, some_occurs};
 ghost use Rattle.text.specs.Routine.{routine_of};
 ghost use Rattle.verdict.specs.Idle.{failing, idle};
-ghost use Rattle.values.specs.Shelf.{termsAt};
+ghost use Rattle.values.specs.Shelf.{terms_at};
 ghost use Rattle.judge.specs.Idle.{Holding};
 ghost use Rattle.judge.specs.Settle.{LastAsked};
 
@@ -16,7 +16,7 @@ use values::source::{place, size_of};
 // One of the first k terms, each of w bytes, has a power of variable v above 0.
 fn occurs(b: &[u8], k: usize, w: usize, v: usize) -> bool
     requires { Holding b.now k w (v + 1) }
-    ensures { result ≡ occurs v (termsAt w b.now 0 k) }
+    ensures { result ≡ occurs v (terms_at w b.now 0 k) }
 {
     let mut i = 0;
     // the first i terms have none
@@ -32,7 +32,7 @@ fn occurs(b: &[u8], k: usize, w: usize, v: usize) -> bool
 // So it is for one of the n variables from `first` on.
 fn some_occurs(b: &[u8], k: usize, w: usize, first: usize, n: usize) -> bool
     requires { Holding b.now k w (first + n) }
-    ensures { result ≡ someOccurs first n (termsAt w b.now 0 k) }
+    ensures { result ≡ some_occurs first n (terms_at w b.now 0 k) }
 {
     let mut j = 0;
     // the first j of them do not occur
@@ -49,7 +49,7 @@ fn some_occurs(b: &[u8], k: usize, w: usize, first: usize, n: usize) -> bool
 fn count_idle(inputs: usize, shares: usize, b: &[u8], k: usize, w: usize) -> usize
     requires { Holding b.now k w (inputs * shares) }
     ensures { result ≡ failing inputs
-        (λ (i : ℕ). someOccurs (i * shares) shares (termsAt w b.now 0 k)) }
+        (λ (i : ℕ). some_occurs (i * shares) shares (terms_at w b.now 0 k)) }
 {
     let mut count: usize = 0;
     let mut i: usize = 0;

@@ -3,35 +3,35 @@
 use Rattle.std.specs.Prelude.{ℕ, zero, suc, ◌+◌, List, [], ◌∷◌}
 use Rattle.rules.specs.declared.types.Statement.{Statement}
 use Rattle.rules.specs.declared.types.Op.TheVariants.{Rand}
-use Rattle.lookup.specs.Coded.{opAt}
+use Rattle.lookup.specs.Coded.{op_at}
 use Rattle.lines.specs.declared.step.Put.{Put}
 use Rattle.lines.specs.declared.step.Put.TheVariants.{Nothing, Map, Input, Stated, Let}
 
 -- the size of the array: three numbers for each statement that a text may have
-abbrev pub mostCodes : ℕ
-mostCodes = 768
+abbrev pub most_codes : ℕ
+most_codes = 768
 
 -- how many statements a record gives
-abbrev pub givenCount : Put → ℕ
-givenCount Nothing = 0
-givenCount (Map x) = 0
-givenCount (Input x) = 0
-givenCount (Stated x st) = 1
-givenCount (Let x f) = f.count
+abbrev pub given_count : Put → ℕ
+given_count Nothing = 0
+given_count (Map x) = 0
+given_count (Input x) = 0
+given_count (Stated x st) = 1
+given_count (Let x f) = f.count
 
 -- what stands for no statement
-abbrev pub noStatement : Statement
-noStatement = record { op = Rand 0; line = 0 }
+abbrev pub no_statement : Statement
+no_statement = record { op = Rand 0; line = 0 }
 
 -- statement i of those that it gives; a formula's is entry i of the numbers
-abbrev pub givenAt : List ℕ → Put → ℕ → Statement
-givenAt codes Nothing i = noStatement
-givenAt codes (Map x) i = noStatement
-givenAt codes (Input x) i = noStatement
-givenAt codes (Stated x st) i = st
-givenAt codes (Let x f) i = record { op = opAt codes i; line = f.line }
+abbrev pub given_at : List ℕ → Put → ℕ → Statement
+given_at codes Nothing i = no_statement
+given_at codes (Map x) i = no_statement
+given_at codes (Input x) i = no_statement
+given_at codes (Stated x st) i = st
+given_at codes (Let x f) i = record { op = op_at codes i; line = f.line }
 
 -- m of them, from i on
-unfoldable pub givenFrom : List ℕ → Put → ℕ → ℕ → List Statement
-givenFrom codes p i zero = []
-givenFrom codes p i (suc m) = givenAt codes p i ∷ givenFrom codes p (i + 1) m
+unfoldable pub given_from : List ℕ → Put → ℕ → ℕ → List Statement
+given_from codes p i zero = []
+given_from codes p i (suc m) = given_at codes p i ∷ given_from codes p (i + 1) m

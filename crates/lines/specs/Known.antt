@@ -1,15 +1,15 @@
 -- What the reading loop holds between two lines, and what it stands for in a text. Assumes nothing.
 use Rattle.std.specs.Prelude.{ℕ, ◌+◌, ◌≤◌, ◌<◌, ◌≡◌, cond, List, eqb, length, take, drop}
-use Rattle.tokens.specs.Limits.{mostShares}
+use Rattle.tokens.specs.Limits.{most_shares}
 use Rattle.rules.specs.declared.types.Statement.{Statement}
 use Rattle.rules.specs.declared.types.AffineMap.{AffineMap}
 use Rattle.lookup.specs.declared.names.Names.{Names}
 use Rattle.lines.specs.declared.known.Known.{Known}
-use Rattle.rules.specs.Order.{inMasked}
+use Rattle.rules.specs.Order.{in_masked}
 use Rattle.rules.specs.State.{State}
-use Rattle.rules.specs.Limits.{mostMaps, mostInputs, mostVariables, mostStatements, mostNumbers}
-use Rattle.rules.specs.Limits.{originFrom, maskedFrom}
-use Rattle.lookup.specs.Names.{namesIn}
+use Rattle.rules.specs.Limits.{most_maps, most_inputs, most_variables, most_statements, most_numbers}
+use Rattle.rules.specs.Limits.{origin_from, masked_from}
+use Rattle.lookup.specs.Names.{names_in}
 
 -- the arrays of the reading loop, beside its table of names
 pub record Arrays : Type 0 where
@@ -31,39 +31,39 @@ abbrev pub kept : List ℕ → Known → Arrays → Kept
 kept t k a = record { names = t; known = k; arrays = a }
 
 -- the names of the maps
-abbrev pub mapNames : Known → Names
-mapNames k = record { from = 0; count = k.mapped }
+abbrev pub map_names : Known → Names
+map_names k = record { from = 0; count = k.mapped }
 
 -- the names of the origin set
-abbrev pub originNames : Known → Names
-originNames k = record { from = originFrom; count = k.wholes }
+abbrev pub origin_names : Known → Names
+origin_names k = record { from = origin_from; count = k.wholes }
 
 -- the names of the masked set
-abbrev pub maskedNames : Known → Names
-maskedNames k = record { from = maskedFrom; count = k.parts }
+abbrev pub masked_names : Known → Names
+masked_names k = record { from = masked_from; count = k.parts }
 
 -- the names of the block that a statement stands in
-abbrev pub blockNames : Known → Names
-blockNames k = cond (eqb k.stage inMasked) (maskedNames k) (originNames k)
+abbrev pub block_names : Known → Names
+block_names k = cond (eqb k.stage in_masked) (masked_names k) (origin_names k)
 
 -- the state that it stands for
-unfoldable pub stateIn : List ℕ → Kept → State
-stateIn s h =
+unfoldable pub state_in : List ℕ → Kept → State
+state_in s h =
     record {
       stage = h.known.stage;
       shares = h.known.shares;
-      mapNames = namesIn s h.names (mapNames h.known);
+      map_names = names_in s h.names (map_names h.known);
       maps = take h.known.mapped h.arrays.maps;
       inputs = h.known.inputs;
       variables = h.known.variables;
       origin =
           record {
-            names = namesIn s h.names (originNames h.known);
+            names = names_in s h.names (origin_names h.known);
             statements = take h.known.origin h.arrays.statements;
           };
       masked =
           record {
-            names = namesIn s h.names (maskedNames h.known);
+            names = names_in s h.names (masked_names h.known);
             statements = take h.known.masked (drop h.known.origin h.arrays.statements);
           };
       result = h.known.result;
@@ -75,17 +75,17 @@ stateIn s h =
 -- the counts are within their limits
 pub record Sound (k : Known) : Type 0 where
   pub shares : k.shares ≤ 255
-  pub mapped : k.mapped ≤ mostMaps
-  pub inputs : k.inputs ≤ mostInputs
-  pub variables : k.variables ≤ mostVariables
-  pub statements : k.origin + k.masked ≤ mostStatements
-  pub named : k.named ≤ mostShares
+  pub mapped : k.mapped ≤ most_maps
+  pub inputs : k.inputs ≤ most_inputs
+  pub variables : k.variables ≤ most_variables
+  pub statements : k.origin + k.masked ≤ most_statements
+  pub named : k.named ≤ most_shares
   pub wholes : k.wholes ≡ k.inputs + k.origin
   pub parts : k.parts ≤ k.variables + k.masked
-  pub apart : k.stage < inMasked → k.masked ≡ 0
+  pub apart : k.stage < in_masked → k.masked ≡ 0
 
 -- the table and the arrays have room up to their limits
 pub record Sized (h : Kept) : Type 0 where
-  pub names : length h.names ≡ mostNumbers
-  pub maps : length h.arrays.maps ≡ mostMaps
-  pub statements : length h.arrays.statements ≡ mostStatements
+  pub names : length h.names ≡ most_numbers
+  pub maps : length h.arrays.maps ≡ most_maps
+  pub statements : length h.arrays.statements ≡ most_statements

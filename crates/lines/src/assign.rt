@@ -1,8 +1,8 @@
 // A statement.
 ghost use Rattle.grammar.specs.declared.record.Rec.TheVariants as rec;
-ghost use Rattle.grammar.specs.Line.{nameIn};
-ghost use Rattle.grammar.specs.Recorded.{assignIn};
-ghost use Rattle.lines.specs.Taken.{Ready, TookAny, recordAt};
+ghost use Rattle.grammar.specs.Line.{name_in};
+ghost use Rattle.grammar.specs.Recorded.{assign_in};
+ghost use Rattle.lines.specs.Taken.{Ready, TookAny, record_at};
 
 use crate::known;
 use crate::known::Setting;
@@ -17,7 +17,7 @@ use rules::types::Statement;
 pub(crate) fn take_statement(s: &[u8], t: &Table, here: Setting, x: NameRead, f: FormRead) -> Step
     requires { Ready s.now here }
     ensures { TookAny s.now t.now here
-        (recordAt s.now here (rec.Assign x f)) result }
+        (record_at s.now here (rec.Assign x f)) result }
 {
     match x {
         NameRead::Name(m) => take_form(s, t, here, m, f),
@@ -29,7 +29,7 @@ pub(crate) fn take_statement(s: &[u8], t: &Table, here: Setting, x: NameRead, f:
 pub(crate) fn take_form(s: &[u8], t: &Table, here: Setting, x: NameRef, f: FormRead) -> Step
     requires { Ready s.now here }
     ensures { TookAny s.now t.now here
-        (assignIn s.now (nameIn s.now x) f) result }
+        (assign_in s.now (name_in s.now x) f) result }
 {
     let k = here.known;
     let set = known::block_names(k);

@@ -1,11 +1,11 @@
 // The records before the blocks: `shares`, `map` and `input`.
 ghost use Rattle.std.specs.Prelude.{◌≡◌, List, ℕ};
 ghost use Rattle.grammar.specs.declared.record.Rec.TheVariants as rec;
-ghost use Rattle.grammar.specs.Line.{nameIn, piecesIn};
-ghost use Rattle.grammar.specs.Recorded.{mapIn, columnsOf};
+ghost use Rattle.grammar.specs.Line.{name_in, pieces_in};
+ghost use Rattle.grammar.specs.Recorded.{map_in, columns_of};
 ghost use Rattle.lines.specs.Known.{Sound};
-ghost use Rattle.lines.specs.Added.{InputFits, inputAdded};
-ghost use Rattle.lines.specs.Taken.{Ready, TookAny, recordAt};
+ghost use Rattle.lines.specs.Added.{InputFits, input_added};
+ghost use Rattle.lines.specs.Taken.{Ready, TookAny, record_at};
 
 use crate::known::{Known, Setting};
 use crate::step::{Put, Step, first_fault, make};
@@ -21,7 +21,7 @@ use tokens::token::Number;
 pub(crate) fn take_shares(here: Setting, count: Number) -> Step
     requires { Sound here.known }
     ensures { (s t : List ℕ) →
-        TookAny s t here (recordAt s here (rec.Shares count)) result }
+        TookAny s t here (record_at s here (rec.Shares count)) result }
 {
     let k = here.known;
     match count {
@@ -39,7 +39,7 @@ pub(crate) fn take_shares(here: Setting, count: Number) -> Step
 pub(crate) fn take_map(s: &[u8], t: &Table, here: Setting, x: NameRead, constant: Number) -> Step
     requires { Ready s.now here }
     ensures { TookAny s.now t.now here
-        (recordAt s.now here (rec.Map x constant)) result }
+        (record_at s.now here (rec.Map x constant)) result }
 {
     match x {
         NameRead::Name(m) => match constant {
@@ -54,8 +54,8 @@ pub(crate) fn take_map(s: &[u8], t: &Table, here: Setting, x: NameRead, constant
 pub(crate) fn take_columns(s: &[u8], t: &Table, here: Setting, x: NameRef, constant: u8) -> Step
     requires { Ready s.now here }
     ensures { TookAny s.now t.now here
-        (mapIn (nameIn s.now x) constant
-        (columnsOf (piecesIn s.now here.line))) result }
+        (map_in (name_in s.now x) constant
+        (columns_of (pieces_in s.now here.line))) result }
 {
     let k = here.known;
     let read = lists::read_columns(s, here.line);
@@ -88,7 +88,7 @@ pub(crate) fn take_columns(s: &[u8], t: &Table, here: Setting, x: NameRef, const
 pub(crate) fn take_input(s: &[u8], t: &Table, here: Setting, x: NameRead) -> Step
     requires { Ready s.now here }
     ensures { TookAny s.now t.now here
-        (recordAt s.now here (rec.Input x)) result }
+        (record_at s.now here (rec.Input x)) result }
 {
     let k = here.known;
     match x {
@@ -115,7 +115,7 @@ pub(crate) fn take_input(s: &[u8], t: &Table, here: Setting, x: NameRead) -> Ste
 // One input more, with its shares.
 pub(crate) fn with_input(k: Known) -> Known
     requires { (Sound k) × InputFits k }
-    ensures { result ≡ inputAdded k }
+    ensures { result ≡ input_added k }
 {
     let mut next = k;
     next.inputs = k.inputs + 1;

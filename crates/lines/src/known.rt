@@ -1,8 +1,8 @@
 // What the lines above have given, in numbers: the stage, the counts, the result and the outputs.
 ghost use Rattle.std.specs.Prelude.{◌≡◌, ◌≤◌};
 ghost use Rattle.lookup.specs.Names.{Within};
-ghost use Rattle.rules.specs.Limits.{mostStatements};
-ghost use Rattle.lines.specs.Known.{Sound, blockNames};
+ghost use Rattle.rules.specs.Limits.{most_statements};
+ghost use Rattle.lines.specs.Known.{Sound, block_names};
 ghost use Rattle.lines.specs.Added.{blank, stated, crowded};
 
 use crate::order::{AT_START, IN_MASKED};
@@ -61,7 +61,7 @@ pub fn begin() -> Known
 // The names of the block that a statement stands in.
 pub(crate) fn block_names(k: Known) -> Names
     requires { Sound k }
-    ensures { Within result × (result ≡ blockNames k) }
+    ensures { Within result × (result ≡ block_names k) }
 {
     if k.stage == IN_MASKED {
         return Names {
@@ -88,7 +88,7 @@ pub(crate) fn is_crowded(k: Known, drawn: usize) -> bool
 
 // So many statements more in the block that they stand in, with the variables that they draw.
 pub(crate) fn with_statements(k: Known, drawn: usize, n: usize) -> Known
-    requires { (Sound k) × (drawn ≤ 1) × (n ≤ mostStatements) }
+    requires { (Sound k) × (drawn ≤ 1) × (n ≤ most_statements) }
     ensures { result ≡ stated k drawn n }
 {
     let mut next = k;

@@ -1,14 +1,14 @@
 // A `let`: its formula looked up, and its operations written.
 ghost use Rattle.std.specs.Prelude.{◌≡◌, ◌+◌, ◌≤◌, length};
 ghost use Rattle.grammar.specs.declared.record.Rec.TheVariants as rec;
-ghost use Rattle.grammar.specs.Line.{piecesIn, nameIn};
-ghost use Rattle.grammar.specs.Formula.{readFormula};
-ghost use Rattle.grammar.specs.Recorded.{formulaOf, letIn};
-ghost use Rattle.lookup.specs.Names.{namesIn};
+ghost use Rattle.grammar.specs.Line.{pieces_in, name_in};
+ghost use Rattle.grammar.specs.Formula.{read_formula};
+ghost use Rattle.grammar.specs.Recorded.{formula_of, let_in};
+ghost use Rattle.lookup.specs.Names.{names_in};
 ghost use Rattle.lines.specs.Lets.{field_of, counted};
 ghost use Rattle.lines.specs.Lets.{LetRoom, LetWritten, Shallow};
-ghost use Rattle.lines.specs.Known.{Sound, blockNames, mapNames};
-ghost use Rattle.lines.specs.Taken.{Ready, Took, recordAt};
+ghost use Rattle.lines.specs.Known.{Sound, block_names, map_names};
+ghost use Rattle.lines.specs.Taken.{Ready, Took, record_at};
 
 use crate::known;
 use crate::known::{Known, Setting};
@@ -27,7 +27,7 @@ use tokens::split;
 pub(crate) fn take_let(s: &[u8], t: &Table, here: Setting, x: NameRead, codes: &mut Codes) -> Step
     requires { Ready s.now here }
     ensures { Took s.now t.now codes.new here
-        (recordAt s.now here (rec.Let x)) result
+        (record_at s.now here (rec.Let x)) result
         × (length codes.new ≡ length codes.old) }
 {
     match x {
@@ -46,7 +46,7 @@ pub(crate) fn take_formula(
 ) -> Step
     requires { Ready s.now here }
     ensures { Took s.now t.now codes.new here
-        (letIn (nameIn s.now x) (formulaOf (piecesIn s.now here.line))) result
+        (let_in (name_in s.now x) (formula_of (pieces_in s.now here.line))) result
         × (length codes.new ≡ length codes.old) }
 {
     let read = formula::line_formula(s, here.line);
@@ -78,7 +78,7 @@ pub(crate) fn take_shallow(
 ) -> Step
     requires { (Shallow s.now f) × (f.line ≡ here.number) × Ready s.now here }
     ensures { Took s.now t.now codes.new here
-        (letIn (nameIn s.now x) (readFormula (field_of s.now f))) result
+        (let_in (name_in s.now x) (read_formula (field_of s.now f))) result
         × (length codes.new ≡ length codes.old) }
 {
     let k = here.known;
@@ -108,11 +108,11 @@ pub(crate) fn count_of(operations: usize) -> usize
 // Whether it reads what is not given.
 pub(crate) fn write_let(s: &[u8], t: &Table, k: Known, f: Letting, out: &mut Codes) -> bool
     requires { (Sound k) × (f.at + f.len ≤ length s.now)
-        × LetRoom (readFormula (field_of s.now f)) }
-    ensures { LetWritten (namesIn s.now t.now (blockNames k))
-        (namesIn s.now t.now (mapNames k)) out.old
+        × LetRoom (read_formula (field_of s.now f)) }
+    ensures { LetWritten (names_in s.now t.now (block_names k))
+        (names_in s.now t.now (map_names k)) out.old
         out.new result
-        (readFormula (field_of s.now f)) }
+        (read_formula (field_of s.now f)) }
 {
     let names = known::block_names(k);
     let maps = Names {

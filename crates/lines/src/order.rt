@@ -1,6 +1,6 @@
 // The order of records.
 ghost use Rattle.std.specs.Prelude.{◌≡◌, ◌||◌, eqb};
-ghost use Rattle.rules.specs.Order.{mayStand, stageAfter};
+ghost use Rattle.rules.specs.Order.{may_stand, stage_after};
 
 use tokens::word::Word;
 
@@ -27,7 +27,7 @@ pub const AT_END: u8 = 6;
 
 // The word may stand at the stage.
 pub(crate) fn may_stand(w: Word, stage: u8) -> bool
-    ensures { result ≡ mayStand w stage }
+    ensures { result ≡ may_stand w stage }
 {
     match w {
         Word::Shares => stage == AT_START,
@@ -49,7 +49,7 @@ pub(crate) fn may_stand(w: Word, stage: u8) -> bool
 
 // The stage behind a word that may stand at a stage.
 pub(crate) fn stage_after(w: Word, stage: u8) -> u8
-    ensures { result ≡ stageAfter w stage }
+    ensures { result ≡ stage_after w stage }
 {
     match w {
         Word::Shares => IN_MAPS,

@@ -1,6 +1,6 @@
 // What one record leads to: its first fault, or what is known behind it and what is to be stored.
 ghost use Rattle.std.specs.Prelude.{◌≡◌};
-ghost use Rattle.lines.specs.Taken.{firstFault, step_of};
+ghost use Rattle.lines.specs.Taken.{first_fault, step_of};
 
 use crate::known::Known;
 use grammar::line::NameRef;
@@ -61,7 +61,7 @@ pub(crate) fn first_fault(
     exceeds: bool,
     miscounts: bool,
 ) -> u8
-    ensures { result ≡ firstFault stands repeats unknown exceeds miscounts }
+    ensures { result ≡ first_fault stands repeats unknown exceeds miscounts }
 {
     if stands {
         if repeats {

@@ -2,7 +2,7 @@
 ghost use Rattle.std.specs.Prelude.{◌≡◌, List, ℕ, length};
 ghost use Rattle.grammar.specs.declared.record.Rec.TheVariants as rec;
 ghost use Rattle.lines.specs.Known.{Sound};
-ghost use Rattle.lines.specs.Taken.{Ready, Took, TookAny, recordAt};
+ghost use Rattle.lines.specs.Taken.{Ready, Took, TookAny, record_at};
 
 use crate::assign::take_statement;
 use crate::declare::{take_input, take_map, take_shares};
@@ -21,7 +21,7 @@ use rules::limits::{MASKED_FROM, ORIGIN_FROM};
 pub(crate) fn take_any(s: &[u8], t: &Table, here: Setting, r: Rec, codes: &mut Codes) -> Step
     requires { Ready s.now here }
     ensures { Took s.now t.now codes.new here
-        (recordAt s.now here r) result
+        (record_at s.now here r) result
         × (length codes.new ≡ length codes.old) }
 {
     match r {
@@ -41,8 +41,8 @@ pub(crate) fn take_any(s: &[u8], t: &Table, here: Setting, r: Rec, codes: &mut C
 // `origin` and `masked`, which add nothing.
 pub(crate) fn take_mark(here: Setting) -> Step
     requires { Sound here.known }
-    ensures { (s t : List ℕ) → TookAny s t here (recordAt s here rec.Origin) result
-        × TookAny s t here (recordAt s here rec.Masked) result }
+    ensures { (s t : List ℕ) → TookAny s t here (record_at s here rec.Origin) result
+        × TookAny s t here (record_at s here rec.Masked) result }
 {
     let e = first_fault(here.stands, false, false, false, false);
     make(e, here.known, Put::Nothing)
@@ -52,7 +52,7 @@ pub(crate) fn take_mark(here: Setting) -> Step
 pub(crate) fn take_result(s: &[u8], t: &Table, here: Setting, x: NameRead) -> Step
     requires { Ready s.now here }
     ensures { TookAny s.now t.now here
-        (recordAt s.now here (rec.Result x)) result }
+        (record_at s.now here (rec.Result x)) result }
 {
     let k = here.known;
     match x {
@@ -75,7 +75,7 @@ pub(crate) fn take_result(s: &[u8], t: &Table, here: Setting, x: NameRead) -> St
 pub(crate) fn take_output(s: &[u8], t: &Table, here: Setting) -> Step
     requires { Ready s.now here }
     ensures { TookAny s.now t.now here
-        (recordAt s.now here rec.Output) result }
+        (record_at s.now here rec.Output) result }
 {
     let k = here.known;
     let read = lists::read_outputs(s, here.line);

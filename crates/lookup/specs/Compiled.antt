@@ -4,39 +4,39 @@ use Rattle.std.proofs.Math.Option.{Option, none, some}
 use Rattle.rules.specs.declared.types.Operand.{Operand}
 use Rattle.lookup.specs.declared.compile.Compiled.{Compiled}
 use Rattle.lookup.specs.declared.compile.Lookup.{Lookup}
-use Rattle.tokens.specs.Ascii.{isMark}
+use Rattle.tokens.specs.Ascii.{is_mark}
 use Rattle.tokens.specs.Split.{until}
-use Rattle.tokens.specs.Token.{Name, readName, readTerm}
+use Rattle.tokens.specs.Token.{Name, read_name, read_term}
 use Rattle.grammar.specs.Formula.{Formula, Parsed, front, operations, parsed}
-use Rattle.rules.specs.Limits.{mostNames, mostStatements}
-use Rattle.rules.specs.Scope.{unknownFormula, value_of, compiled}
-use Rattle.lookup.specs.Names.{namesIn, Within}
-use Rattle.lookup.specs.Found.{termFound, asTerm}
+use Rattle.rules.specs.Limits.{most_names, most_statements}
+use Rattle.rules.specs.Scope.{unknown_formula, value_of, compiled}
+use Rattle.lookup.specs.Names.{names_in, Within}
+use Rattle.lookup.specs.Found.{term_found, as_term}
 use Rattle.lookup.specs.Coded.{written}
 
 -- the names of the set and of the maps that a formula reads
-abbrev pub setIn : List ℕ → List ℕ → Lookup → List Name
-setIn s t w = namesIn s t w.names
+abbrev pub set_in : List ℕ → List ℕ → Lookup → List Name
+set_in s t w = names_in s t w.names
 
 -- the names of the maps
-abbrev pub mapsIn : List ℕ → List ℕ → Lookup → List Name
-mapsIn s t w = namesIn s t w.maps
+abbrev pub maps_in : List ℕ → List ℕ → Lookup → List Name
+maps_in s t w = names_in s t w.maps
 
 -- what was looked up
-abbrev pub compiledOf : ℕ → Bool → Operand → ℕ → Compiled
-compiledOf end unknown operand done = record { end = end; unknown = unknown; operand = operand; done = done }
+abbrev pub compiled_of : ℕ → Bool → Operand → ℕ → Compiled
+compiled_of end unknown operand done = record { end = end; unknown = unknown; operand = operand; done = done }
 
 -- the map whose name stands at place `at` of f
 abbrev pub MapLooked : List Name → List ℕ → ℕ → ℕ → Compiled → Type 0
 MapLooked maps f at k r =
-    let x = termFound maps (asTerm (readName (front (drop at f)))) in
-    r ≡ compiledOf (at + until isMark (drop at f)) x.unknown x.operand k
+    let x = term_found maps (as_term (read_name (front (drop at f)))) in
+    r ≡ compiled_of (at + until is_mark (drop at f)) x.unknown x.operand k
 
 -- the operand from place `at` of f to the mark
 abbrev pub TermLooked : List Name → List ℕ → ℕ → ℕ → ℕ → Compiled → Type 0
 TermLooked ms f at mark k r =
-    let x = termFound ms (readTerm (take (mark - at) (drop at f))) in
-    r ≡ compiledOf mark x.unknown x.operand k
+    let x = term_found ms (read_term (take (mark - at) (drop at f))) in
+    r ≡ compiled_of mark x.unknown x.operand k
 
 -- the formula e at place `at` of f looked up, its operations written from entry k on; u stands behind it
 pub record CompileIs (ms maps : List Name) (base at k : ℕ) (f entry exit : List ℕ) (r : Compiled) (e : Formula)
@@ -44,7 +44,7 @@ pub record CompileIs (ms maps : List Name) (base at k : ℕ) (f entry exit : Lis
   pub from : at ≤ r.end
   pub within : r.end ≤ length f
   pub behind : drop r.end f ≡ u
-  pub unknown : r.unknown ≡ unknownFormula ms maps e
+  pub unknown : r.unknown ≡ unknown_formula ms maps e
   pub operand : r.operand ≡ value_of ms (base + k) e
   pub done : r.done ≡ k + operations e
   pub codes : exit ≡ written entry k (compiled ms maps (base + k) e)
@@ -57,13 +57,13 @@ Compiles ms maps base at k f entry exit r (some p) = CompileIs ms maps base at k
 -- there is a formula, and room for its operations
 abbrev pub Room : ℕ → Option Parsed → Type 0
 Room done none = ⊥
-Room done (some p) = done + operations p.0 ≤ mostStatements
+Room done (some p) = done + operations p.0 ≤ most_statements
 
 -- the names are in the table, the values have places, and f stands in the text
 pub record Looks (s f : List ℕ) (w : Lookup) : Type 0 where
   pub names : Within w.names
   pub maps : Within w.maps
-  pub based : w.base ≤ mostNames
+  pub based : w.base ≤ most_names
   pub field : f ≡ take (length f) (drop w.from s)
   pub inside : w.from + length f ≤ length s
 
@@ -74,12 +74,12 @@ Compilable s f w at k = Looks s f w × (at ≤ length f) × Room k (parsed (drop
 -- the whole outcome of looking up the formula at place `at` of f, in the sets of the table t
 abbrev pub CompilesAt : (s t f entry exit : List ℕ) → Lookup → ℕ → ℕ → Compiled → Type 0
 CompilesAt s t f entry exit w at k r =
-    Compiles (setIn s t w) (mapsIn s t w) w.base at k f entry exit r (parsed (drop at f))
+    Compiles (set_in s t w) (maps_in s t w) w.base at k f entry exit r (parsed (drop at f))
 
 -- the whole outcome of looking up a map
 abbrev pub MapLookedAt : (s t f : List ℕ) → Lookup → ℕ → ℕ → Compiled → Type 0
-MapLookedAt s t f w at k r = MapLooked (mapsIn s t w) f at k r
+MapLookedAt s t f w at k r = MapLooked (maps_in s t w) f at k r
 
 -- the whole outcome of looking up an operand
 abbrev pub TermLookedAt : (s t f : List ℕ) → Lookup → ℕ → ℕ → ℕ → Compiled → Type 0
-TermLookedAt s t f w at mark k r = TermLooked (setIn s t w) f at mark k r
+TermLookedAt s t f w at mark k r = TermLooked (set_in s t w) f at mark k r

@@ -1,9 +1,9 @@
 // A formula looked up: its operations, three numbers for each in a lent array, and its value.
 ghost use Rattle.std.specs.Prelude.{◌≡◌, ◌<◌, ◌≤◌, length};
-ghost use Rattle.rules.specs.Limits.{mostStatements};
+ghost use Rattle.rules.specs.Limits.{most_statements};
 ghost use Rattle.lookup.specs.Compiled.{Looks, Compilable};
-ghost use Rattle.lookup.specs.Coded.{operandCode, putOp, putCodes};
-ghost use Rattle.lookup.specs.Compiled.{compiledOf, CompilesAt, MapLookedAt};
+ghost use Rattle.lookup.specs.Coded.{operand_code, put_op, put_codes};
+ghost use Rattle.lookup.specs.Compiled.{compiled_of, CompilesAt, MapLookedAt};
 ghost use Rattle.lookup.specs.Compiled.{TermLookedAt};
 
 use crate::names::{Names, Table};
@@ -82,7 +82,7 @@ pub fn compile(
 
 // What was looked up.
 pub(crate) fn made(end: usize, unknown: bool, operand: Operand, done: usize) -> Compiled
-    ensures { result ≡ compiledOf end unknown operand done }
+    ensures { result ≡ compiled_of end unknown operand done }
 {
     Compiled {
         end,
@@ -128,7 +128,7 @@ pub(crate) fn find_operand(
 
 // An operand as a number.
 pub(crate) fn operand_code(a: Operand) -> usize
-    ensures { result ≡ operandCode a }
+    ensures { result ≡ operand_code a }
 {
     match a {
         Operand::Place(i) => i,
@@ -138,8 +138,8 @@ pub(crate) fn operand_code(a: Operand) -> usize
 
 // Stores an operation as entry k.
 pub fn put_op(out: &mut Codes, k: usize, o: Op)
-    requires { k < mostStatements }
-    ensures { out.new ≡ putOp out.old k o }
+    requires { k < most_statements }
+    ensures { out.new ≡ put_op out.old k o }
 {
     match o {
         Op::Set(a) => put_codes(out, k, 0, operand_code(a), 0),
@@ -152,8 +152,8 @@ pub fn put_op(out: &mut Codes, k: usize, o: Op)
 
 // Stores three numbers as entry k.
 pub(crate) fn put_codes(out: &mut Codes, k: usize, kind: usize, left: usize, right: usize)
-    requires { k < mostStatements }
-    ensures { out.new ≡ putCodes out.old k kind left right }
+    requires { k < most_statements }
+    ensures { out.new ≡ put_codes out.old k kind left right }
 {
     let i = 3 * k;
     out[i] = kind;

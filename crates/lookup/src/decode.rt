@@ -1,7 +1,7 @@
 // Operations back from their numbers.
 ghost use Rattle.std.specs.Prelude.{◌≡◌, ◌<◌};
-ghost use Rattle.rules.specs.Limits.{mostStatements};
-ghost use Rattle.lookup.specs.Coded.{operandOf, op_of, opAt};
+ghost use Rattle.rules.specs.Limits.{most_statements};
+ghost use Rattle.lookup.specs.Coded.{operand_of, op_of, op_at};
 
 use crate::compile::Codes;
 use rules::limits::MOST_NAMES;
@@ -9,7 +9,7 @@ use rules::types::{Op, Operand, Statement};
 
 // The operand that a number stands for.
 pub(crate) fn operand_of(n: usize) -> Operand
-    ensures { result ≡ operandOf n }
+    ensures { result ≡ operand_of n }
 {
     if n < MOST_NAMES {
         return Operand::Place(n);
@@ -40,8 +40,8 @@ pub(crate) fn op_of(kind: usize, left: usize, right: usize) -> Op
 
 // The statement of entry k, with its line.
 pub fn statement_at(codes: &Codes, k: usize, line: usize) -> Statement
-    requires { k < mostStatements }
-    ensures { result ≡ record { op = opAt codes.now k; line = line } }
+    requires { k < most_statements }
+    ensures { result ≡ record { op = op_at codes.now k; line = line } }
 {
     let i = 3 * k;
     let op = op_of(codes[i], codes[i + 1], codes[i + 2]);

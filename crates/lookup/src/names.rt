@@ -1,7 +1,7 @@
 // Names by their place in the text: a table of three numbers for a name, and sets of names in it.
 ghost use Rattle.std.specs.Prelude.{◌≡◌, ◌+◌, ◌≤◌, ◌<◌, length};
-ghost use Rattle.rules.specs.Limits.{mostEntries, mostNumbers};
-ghost use Rattle.lookup.specs.Names.{Within, EntryIs, PlaceIs, put as put_in, putShares};
+ghost use Rattle.rules.specs.Limits.{most_entries, most_numbers};
+ghost use Rattle.lookup.specs.Names.{Within, EntryIs, PlaceIs, put as put_in, put_shares};
 
 use grammar::line::NameRef;
 use rules::limits::NUMBERS;
@@ -19,14 +19,14 @@ pub struct Names {
 
 // A table without names.
 pub fn none() -> Table
-    ensures { length result ≡ mostNumbers }
+    ensures { length result ≡ most_numbers }
 {
     [0; NUMBERS]
 }
 
 // The bytes x and the part make the name that is entry `at`.
 pub(crate) fn is_entry(s: &[u8], t: &Table, at: usize, x: &[u8], part: usize) -> bool
-    requires { at < mostEntries }
+    requires { at < most_entries }
     ensures { EntryIs s.now t.now at x.now part result }
 {
     let j = 3 * at;
@@ -57,7 +57,7 @@ pub(crate) fn place(s: &[u8], t: &Table, set: Names, n: NameRef) -> usize
 
 // Stores a name as entry `at`.
 pub fn put(t: &mut Table, at: usize, n: NameRef)
-    requires { at < mostEntries }
+    requires { at < most_entries }
     ensures { t.new ≡ put_in t.old at n }
 {
     let i = 3 * at;
@@ -68,8 +68,8 @@ pub fn put(t: &mut Table, at: usize, n: NameRef)
 
 // Stores the shares x.0, x.1 .. of an input, k of them, as the entries from `at` on.
 pub fn put_shares(t: &mut Table, at: usize, x: NameRef, k: usize)
-    requires { (k ≤ 255) × (at + k ≤ mostEntries) }
-    ensures { t.new ≡ putShares t.old at x k }
+    requires { (k ≤ 255) × (at + k ≤ most_entries) }
+    ensures { t.new ≡ put_shares t.old at x k }
 {
     let mut i = 0;
     while i < k {

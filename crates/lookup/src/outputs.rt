@@ -1,6 +1,6 @@
 // The names of an output line, compared with one another and looked up in the masked set.
 ghost use Rattle.std.specs.Prelude.{◌≡◌};
-ghost use Rattle.grammar.specs.Recorded.{namesRead, Listed};
+ghost use Rattle.grammar.specs.Recorded.{names_read, Listed};
 ghost use Rattle.lookup.specs.Names.{Within};
 ghost use Rattle.rules.specs.Scope.{repeated};
 ghost use Rattle.lookup.specs.Found.{PlacesAre};
@@ -13,7 +13,7 @@ use tokens::limits::MOST_SHARES;
 // Some name stands in the line twice.
 pub fn is_repeated(s: &[u8], o: Outputs) -> bool
     requires { Listed o }
-    ensures { result ≡ repeated (namesRead s.now o) }
+    ensures { result ≡ repeated (names_read s.now o) }
 {
     let items = o.items;
     let count = o.count;

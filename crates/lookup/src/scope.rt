@@ -1,9 +1,9 @@
 // What a record reads and gives, looked up in its set.
 ghost use Rattle.std.specs.Prelude.{◌≡◌, List, ℕ};
-ghost use Rattle.grammar.specs.Line.{name_at, termAt};
+ghost use Rattle.grammar.specs.Line.{name_at, term_at};
 ghost use Rattle.lookup.specs.Names.{Within};
 ghost use Rattle.lookup.specs.Found.{GivenIs, NameIs, TermIs, PairIs, FormIs};
-ghost use Rattle.lookup.specs.Found.{joined, operated, asTerm};
+ghost use Rattle.lookup.specs.Found.{joined, operated, as_term};
 
 use crate::names::{Names, Table};
 use crate::{flags, names};
@@ -88,7 +88,7 @@ pub(crate) fn find_term(s: &[u8], t: &Table, set: Names, a: TermRead) -> TermFou
 
 // A map's name as an operand.
 pub(crate) fn term_of(f: NameRead) -> TermRead
-    ensures { (s : List ℕ) → termAt s result ≡ asTerm (name_at s f) }
+    ensures { (s : List ℕ) → term_at s result ≡ as_term (name_at s f) }
 {
     match f {
         NameRead::Name(n) => TermRead::Name(n),

@@ -9,9 +9,9 @@ occurs i [] = false
 occurs i (term c e ∷ p) = ltb 0 (get_or e i 0) || occurs i p
 
 -- so it is for one of the k variables from i on
-unfoldable pub someOccurs : (i k : ℕ) → Poly → Bool
-someOccurs i zero p = false
-someOccurs i (suc k) p = someOccurs i k p || occurs (i + k) p
+unfoldable pub some_occurs : (i k : ℕ) → Poly → Bool
+some_occurs i zero p = false
+some_occurs i (suc k) p = some_occurs i k p || occurs (i + k) p
 
 -- powers with none of variable i
 abbrev pub Without : ℕ → List ℕ → Type 0

@@ -25,10 +25,10 @@ abbrev pub reduce : ℕ → ℕ
 reduce e = pick (ltb 255 e) (suc ((e - 256) % 255)) e
 
 -- the powers of a product of two terms; what is past the end of either list counts as 0
-abbrev pub addPows : List ℕ → List ℕ → List ℕ
-addPows [] f = f
-addPows (a ∷ e) [] = a ∷ e
-addPows (a ∷ e) (b ∷ f) = reduce (a + b) ∷ addPows e f
+abbrev pub add_pows : List ℕ → List ℕ → List ℕ
+add_pows [] f = f
+add_pows (a ∷ e) [] = a ∷ e
+add_pows (a ∷ e) (b ∷ f) = reduce (a + b) ∷ add_pows e f
 
 -- ---- the order of terms
 
@@ -53,9 +53,9 @@ keep zero e p = p
 keep (suc c) e p = term (suc c) e ∷ p
 
 -- no term where l is zero
-abbrev pub unlessZero : ℕ → Poly → Poly
-unlessZero zero p = []
-unlessZero (suc l) p = p
+abbrev pub unless_zero : ℕ → Poly → Poly
+unless_zero zero p = []
+unless_zero (suc l) p = p
 
 -- the byte c as a polynomial in n variables: no term where it is zero
 abbrev pub constant : ℕ → ℕ → Poly
@@ -105,33 +105,33 @@ module _ (F : Ops) where
   -- ---- the operations; `..Raw` is the list of terms before it is made normal
 
   -- the sum
-  abbrev pub addPoly : Poly → Poly → Poly
-  addPoly p q = normal (p ++ q)
+  abbrev pub add_poly : Poly → Poly → Poly
+  add_poly p q = normal (p ++ q)
 
   -- each term of a list times the term c, e
   abbrev pub scale : ℕ → List ℕ → Poly → Poly
   scale c e [] = []
-  scale c e (term d f ∷ q) = term (mul c d) (addPows e f) ∷ scale c e q
+  scale c e (term d f ∷ q) = term (mul c d) (add_pows e f) ∷ scale c e q
 
   -- each term of the one times each of the other
-  abbrev pub mulRaw : Poly → Poly → Poly
-  mulRaw [] q = []
-  mulRaw (term c e ∷ p) q = scale c e q ++ mulRaw p q
+  abbrev pub mul_raw : Poly → Poly → Poly
+  mul_raw [] q = []
+  mul_raw (term c e ∷ p) q = scale c e q ++ mul_raw p q
 
   -- the product
-  abbrev pub mulPoly : Poly → Poly → Poly
-  mulPoly p q = normal (mulRaw p q)
+  abbrev pub mul_poly : Poly → Poly → Poly
+  mul_poly p q = normal (mul_raw p q)
 
   -- the square, term by term, since squaring is additive
   abbrev pub square : Poly → Poly
   square [] = []
-  square (term c e ∷ p) = term (mul c c) (addPows e e) ∷ square p
+  square (term c e ∷ p) = term (mul c c) (add_pows e e) ∷ square p
 
   -- l0·p + l1·p² + l2·p⁴ + ..
-  abbrev pub linearRaw : List ℕ → Poly → Poly
-  linearRaw [] p = []
-  linearRaw (l ∷ ls) p = scale l [] p ++ linearRaw ls (square p)
+  abbrev pub linear_raw : List ℕ → Poly → Poly
+  linear_raw [] p = []
+  linear_raw (l ∷ ls) p = scale l [] p ++ linear_raw ls (square p)
 
   -- the map with the constant c and the coefficients ls, applied to a polynomial in n variables
-  abbrev pub mapPoly : ℕ → ℕ → List ℕ → Poly → Poly
-  mapPoly n c ls p = normal (constant n c ++ linearRaw ls p)
+  abbrev pub map_poly : ℕ → ℕ → List ℕ → Poly → Poly
+  map_poly n c ls p = normal (constant n c ++ linear_raw ls p)

@@ -40,5 +40,5 @@ module _ (F : Ops) where
   linear (l ∷ ls) x = add (mul l x) (linear ls (mul x x))
 
   -- the value at a byte of the map with the constant c and the coefficients ls
-  abbrev pub mapByte : ℕ → List ℕ → ℕ → ℕ
-  mapByte c ls x = add c (linear ls x)
+  abbrev pub map_byte : ℕ → List ℕ → ℕ → ℕ
+  map_byte c ls x = add c (linear ls x)

@@ -5,7 +5,7 @@ use Rattle.std.specs.Prelude.{◌≡◌, List, [], ◌∷◌, ◌++◌, length, 
 use Rattle.field.specs.Laws.{Ops, gf}
 use Rattle.poly.specs.Poly.{term, Poly, order, into}
 use Rattle.poly.specs.Canon.{Coefs, Sorted, Nonzero}
-use Rattle.buffer.specs.Buffer.{readTerms}
+use Rattle.buffer.specs.Buffer.{read_terms}
 use Rattle.buffer.specs.Insert.{Holds}
 
 -- ---- one step
@@ -18,15 +18,15 @@ pub record Merging (b : List ℕ) (w k i end j last : ℕ) : Type 0 where
   pub most : j ≤ last
   pub room : k + (last - j) ≤ i
   pub fits : last * w ≤ length b
-  pub ascends : Sorted (readTerms (w - 1) b (i * w) (end - i))
-  pub sorted : Sorted (readTerms (w - 1) b (j * w) (last - j))
-  pub nonzero : Coefs Nonzero (readTerms (w - 1) b (j * w) (last - j))
+  pub ascends : Sorted (read_terms (w - 1) b (i * w) (end - i))
+  pub sorted : Sorted (read_terms (w - 1) b (j * w) (last - j))
+  pub nonzero : Coefs Nonzero (read_terms (w - 1) b (j * w) (last - j))
 
 -- the terms written, and what those left of the piece and of the sum still give
 abbrev pub merged : Ops → List ℕ → ℕ → ℕ → ℕ → ℕ → ℕ → ℕ → Poly
 merged F b w k i end j last =
-    readTerms (w - 1) b 0 k
-    ++ into F (readTerms (w - 1) b (j * w) (last - j)) (readTerms (w - 1) b (i * w) (end - i))
+    read_terms (w - 1) b 0 k
+    ++ into F (read_terms (w - 1) b (j * w) (last - j)) (read_terms (w - 1) b (i * w) (end - i))
 
 -- term j of the piece stands in the buffer, and there is room for a term before those left of the sum
 pub record StepAsked (b : List ℕ) (w k i end j : ℕ) : Type 0 where
@@ -43,12 +43,12 @@ against e (term d f ∷ p) = order e f
 
 -- the powers of term j of the piece against those of the first term left of the sum
 abbrev pub facing : List ℕ → ℕ → ℕ → ℕ → ℕ → Ordering
-facing b w i end j = against (take (w - 1) (drop (suc (j * w)) b)) (readTerms (w - 1) b (i * w) (end - i))
+facing b w i end j = against (take (w - 1) (drop (suc (j * w)) b)) (read_terms (w - 1) b (i * w) (end - i))
 
 -- the terms p are written behind the first k, which makes n; from term `from` on nothing is touched
 pub record Grown (b b' : List ℕ) (w k n from : ℕ) (p : Poly) : Type 0 where
   pub size : length b' ≡ length b
-  pub terms : readTerms (w - 1) b' 0 n ≡ readTerms (w - 1) b 0 k ++ p
+  pub terms : read_terms (w - 1) b' 0 n ≡ read_terms (w - 1) b 0 k ++ p
   pub high : (x : ℕ) → from * w ≤ x → get_or b' x 0 ≡ get_or b x 0
 
 -- a step: one term at least is passed, and the whole stays what it was
@@ -71,11 +71,11 @@ pub record MergeAsked (b : List ℕ) (n at r w : ℕ) : Type 0 where
   pub some : 0 < w
   pub room : n + r ≤ at
   pub fits : (at + r) * w ≤ length b
-  pub ascends : Sorted (readTerms (w - 1) b 0 n)
-  pub sorted : Sorted (readTerms (w - 1) b (at * w) r)
-  pub nonzero : Coefs Nonzero (readTerms (w - 1) b (at * w) r)
+  pub ascends : Sorted (read_terms (w - 1) b 0 n)
+  pub sorted : Sorted (read_terms (w - 1) b (at * w) r)
+  pub nonzero : Coefs Nonzero (read_terms (w - 1) b (at * w) r)
 
 -- the r terms from term `at` on inserted among the first n, over every modulus
 abbrev pub MergedAny : List ℕ → List ℕ → ℕ → ℕ → ℕ → ℕ → ℕ → Type 0
 MergedAny b b' n at r w k =
-    (m : ℕ) → Holds b b' w (length b) k (into (gf m) (readTerms (w - 1) b (at * w) r) (readTerms (w - 1) b 0 n))
+    (m : ℕ) → Holds b b' w (length b) k (into (gf m) (read_terms (w - 1) b (at * w) r) (read_terms (w - 1) b 0 n))

@@ -1,6 +1,6 @@
 // A map applied to a polynomial p: its constant, and its coefficients times p, p², p⁴, .. p^128.
 ghost use Rattle.std.specs.Prelude.{[], ◌*◌, ◌<◌, ◌≤◌, length, get_or};
-ghost use Rattle.poly.specs.Size.{oneIf};
+ghost use Rattle.poly.specs.Size.{one_if};
 ghost use Rattle.product.specs.Apply.{Constant, Squared, ScaledAsked, ScaledAdded};
 ghost use Rattle.product.specs.Apply.{ApplyAsked, Applied};
 
@@ -51,7 +51,7 @@ fn apply(m: u8, list: [u8; 8], c: u8, b: &mut [u8], src: &mut [u8], k: usize, t:
 // The constant c as a polynomial, written to the front of b, a term of w bytes; answers how many
 // terms that is.
 fn write_constant(b: &mut [u8], c: u8, w: usize) -> usize
-    requires { (0 < w) × (oneIf c * w ≤ length b.old) }
+    requires { (0 < w) × (one_if c * w ≤ length b.old) }
     ensures { Constant b.old b.new c w result }
 {
     if c == 0 {

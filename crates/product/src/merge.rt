@@ -2,7 +2,7 @@
 ghost use Rattle.std.specs.Prelude.{◌≡◌, [], ◌∷◌, suc, ◌+◌, ◌*◌, ◌-◌, ◌<◌, ◌≤◌, length, get_or, take, drop};
 ghost use Rattle.field.specs.Xor.{◌⊕◌};
 ghost use Rattle.poly.specs.Poly.{keep};
-ghost use Rattle.buffer.specs.Buffer.{termAt, answer};
+ghost use Rattle.buffer.specs.Buffer.{term_at, answer};
 ghost use Rattle.product.specs.Merge.{StepAsked, SteppedAny, MergeAsked, MergedAny};
 ghost use Rattle.product.specs.Merge.{Grown, facing};
 
@@ -92,7 +92,7 @@ fn first_of(b: &[u8], i: usize, end: usize, j: usize, w: usize) -> u8
 fn take_term(b: &mut [u8], i: usize, k: usize, w: usize)
     requires { (0 < w) × (k ≤ i) × ((i + 1) * w ≤ length b.old) }
     ensures { Grown b.old b.new w k (k + 1) (k + 1)
-        (termAt (w - 1) b.old (i * w) ∷ []) }
+        (term_at (w - 1) b.old (i * w) ∷ []) }
 {
     let at = i * w;
     move_down(b, at, at + w, at - k * w);

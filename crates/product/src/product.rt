@@ -1,7 +1,7 @@
 // The product of two polynomials, of a term and a polynomial, and of two terms.
 ghost use Rattle.std.specs.Prelude.{◌≡◌, ◌+◌, ◌<◌, ◌≤◌, length};
 ghost use Rattle.poly.specs.Poly.{reduce};
-ghost use Rattle.product.specs.Product.{termTimes, RowAsked, RowAdded, ProductAsked, Product};
+ghost use Rattle.product.specs.Product.{term_times, RowAsked, RowAdded, ProductAsked, Product};
 ghost use Rattle.product.specs.Product.{SumAsked, SumAdded, ProductSummed};
 
 use crate::merge::merge_terms;
@@ -133,7 +133,7 @@ pub(crate) fn product_row(
 pub(crate) fn term_product(m: u8, p: &[u8], q: &[u8], t: &mut [u8])
     requires { (0 < length p.now) × (length p.now ≤ length t.old)
         × (length q.now ≡ length t.old) }
-    ensures { t.new ≡ termTimes m p.now q.now }
+    ensures { t.new ≡ term_times m p.now q.now }
 {
     t[0] = times(m, p[0], q[0]);
     let mut j = 1;

@@ -7,10 +7,10 @@ use Rattle.reader.specs.declared.cursor.Cursor.{Cursor}
 use Rattle.reader.specs.declared.cursor.Ahead.{Ahead}
 use Rattle.reader.specs.declared.cursor.Ahead.TheVariants as Ahead
 use Rattle.tokens.specs.Ascii.{all, allowed}
-use Rattle.grammar.specs.Line.{piecesIn, fieldIn}
-use Rattle.grammar.specs.Record.{Record, recordFor, nests}
-use Rattle.tokens.specs.Word.{wordOf}
-use Rattle.reader.specs.Cursor.{lookAt}
+use Rattle.grammar.specs.Line.{pieces_in, field_in}
+use Rattle.grammar.specs.Record.{Record, record_for, nests}
+use Rattle.tokens.specs.Word.{word_of}
+use Rattle.reader.specs.Cursor.{look_at}
 
 -- ---- places
 
@@ -41,43 +41,43 @@ abbrev pub bytes_of : List ℕ → Line → List ℕ
 bytes_of s l = take l.len (drop l.from s)
 
 -- line l, which its line feed ends; c is behind it
-unfoldable pub lineGiven : List ℕ → Line → Cursor → Given
-lineGiven s l c =
+unfoldable pub line_given : List ℕ → Line → Cursor → Given
+line_given s l c =
     cond (all allowed (bytes_of s l))
-    (formed l c (recordFor (wordOf (fieldIn s l 0)) (piecesIn s l)))
+    (formed l c (record_for (word_of (field_in s l 0)) (pieces_in s l)))
     (refused 3 c)
 
 -- line l, which lacks its line feed; c is behind it
-unfoldable pub lastGiven : List ℕ → Line → Cursor → Given
-lastGiven s l c = refused (cond (all allowed (bytes_of s l)) 4 3) c
+unfoldable pub last_given : List ℕ → Line → Cursor → Given
+last_given s l c = refused (cond (all allowed (bytes_of s l)) 4 3) c
 
 -- what stands ahead of place p
-abbrev pub aheadGiven : List ℕ → Cursor → Ahead → Given
-aheadGiven s p (Ahead.Line l c) = lineGiven s l c
-aheadGiven s p (Ahead.Unended l) = lastGiven s l (record { at = length s; line = p.line + 1 })
-aheadGiven s p Ahead.End = ended
+abbrev pub ahead_given : List ℕ → Cursor → Ahead → Given
+ahead_given s p (Ahead.Line l c) = line_given s l c
+ahead_given s p (Ahead.Unended l) = last_given s l (record { at = length s; line = p.line + 1 })
+ahead_given s p Ahead.End = ended
 
 -- what is handed out at any place of any text
-unfoldable pub recordAhead : List ℕ → ℕ → ℕ → Given
-recordAhead s at line = aheadGiven s (placed s at line) (lookAt s (placed s at line))
+unfoldable pub record_ahead : List ℕ → ℕ → ℕ → Given
+record_ahead s at line = ahead_given s (placed s at line) (look_at s (placed s at line))
 
 -- the place behind what was handed out at place p; at the end it stays
-abbrev pub behindOf : Cursor → Given → Cursor
-behindOf p (given l r c) = c
-behindOf p (refused e c) = c
-behindOf p ended = p
+abbrev pub behind_of : Cursor → Given → Cursor
+behind_of p (given l r c) = c
+behind_of p (refused e c) = c
+behind_of p ended = p
 
 -- the place behind what is handed out at any place of any text
-unfoldable pub placeBehind : List ℕ → ℕ → ℕ → Cursor
-placeBehind s at line = behindOf (placed s at line) (recordAhead s at line)
+unfoldable pub place_behind : List ℕ → ℕ → ℕ → Cursor
+place_behind s at line = behind_of (placed s at line) (record_ahead s at line)
 
 -- ---- one after the other
 
 -- the place where a reader opened on a text stands when it has been moved i times
-unfoldable pub placeAt : List ℕ → ℕ → Cursor
-placeAt s zero = record { at = 0; line = 0 }
-placeAt s (suc i) = let p = placeAt s i in placeBehind s p.at p.line
+unfoldable pub place_at : List ℕ → ℕ → Cursor
+place_at s zero = record { at = 0; line = 0 }
+place_at s (suc i) = let p = place_at s i in place_behind s p.at p.line
 
 -- what a reader opened on a text hands out when it has been moved i times
-unfoldable pub handedAt : List ℕ → ℕ → Given
-handedAt s i = recordAhead s (placeAt s i).at (placeAt s i).line
+unfoldable pub handed_at : List ℕ → ℕ → Given
+handed_at s i = record_ahead s (place_at s i).at (place_at s i).line

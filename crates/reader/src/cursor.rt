@@ -1,6 +1,6 @@
 // The place in the text behind the lines that were read, and the line ahead.
 ghost use Rattle.std.specs.Prelude.{◌≡◌, ◌≤◌, length};
-ghost use Rattle.reader.specs.Cursor.{lookAt};
+ghost use Rattle.reader.specs.Cursor.{look_at};
 
 use grammar::line::Line;
 use tokens::bytes;
@@ -25,7 +25,7 @@ pub enum Ahead {
 // Looks at the line ahead of the cursor.
 pub fn look(s: &[u8], c: Cursor) -> Ahead
     requires { (c.at ≤ length s.now) × (c.line ≤ c.at) }
-    ensures { result ≡ lookAt s.now c }
+    ensures { result ≡ look_at s.now c }
 {
     let at = c.at;
     let end = bytes::find(s, at, LINE_FEED);

@@ -1,11 +1,11 @@
 // Whether every field of a record was read: refusal 5 is given where one was not; and whether it
 // nests above 8: refusal 13.
 ghost use Rattle.std.specs.Prelude.{◌≡◌};
-ghost use Rattle.grammar.specs.Line.{Inside, piecesIn};
+ghost use Rattle.grammar.specs.Line.{Inside, pieces_in};
 ghost use Rattle.tokens.specs.Token.{is_some};
-ghost use Rattle.grammar.specs.Recorded.{columnsOf, formulaOf, names_of};
-ghost use Rattle.reader.specs.Handed.{hasName, hasTerm, hasNumber};
-ghost use Rattle.reader.specs.Handed.{hasForm, hasFields, deep, nestsIn};
+ghost use Rattle.grammar.specs.Recorded.{columns_of, formula_of, names_of};
+ghost use Rattle.reader.specs.Handed.{has_name, has_term, has_number};
+ghost use Rattle.reader.specs.Handed.{has_form, has_fields, deep, nests_in};
 
 use grammar::line::{Line, NameRead, TermRead};
 use grammar::record::{FormRead, Rec};
@@ -16,7 +16,7 @@ use tokens::token::Number;
 // Every field of the record of line l was read.
 pub fn has_fields(s: &[u8], l: Line, r: Rec) -> bool
     requires { Inside s.now l }
-    ensures { result ≡ hasFields (piecesIn s.now l) r }
+    ensures { result ≡ has_fields (pieces_in s.now l) r }
 {
     match r {
         Rec::Bad => false,
@@ -35,7 +35,7 @@ pub fn has_fields(s: &[u8], l: Line, r: Rec) -> bool
 // The columns of a map line were read.
 pub fn has_columns(s: &[u8], l: Line) -> bool
     requires { Inside s.now l }
-    ensures { result ≡ is_some (columnsOf (piecesIn s.now l)) }
+    ensures { result ≡ is_some (columns_of (pieces_in s.now l)) }
 {
     let columns = lists::read_columns(s, l);
     columns.ok
@@ -44,7 +44,7 @@ pub fn has_columns(s: &[u8], l: Line) -> bool
 // The formula of a line was read.
 pub fn has_formula(s: &[u8], l: Line) -> bool
     requires { Inside s.now l }
-    ensures { result ≡ is_some (formulaOf (piecesIn s.now l)) }
+    ensures { result ≡ is_some (formula_of (pieces_in s.now l)) }
 {
     let f = formula::line_formula(s, l);
     f.ok
@@ -53,7 +53,7 @@ pub fn has_formula(s: &[u8], l: Line) -> bool
 // The names of an output line were read.
 pub fn has_outputs(s: &[u8], l: Line) -> bool
     requires { Inside s.now l }
-    ensures { result ≡ is_some (names_of (piecesIn s.now l)) }
+    ensures { result ≡ is_some (names_of (pieces_in s.now l)) }
 {
     let names = lists::read_outputs(s, l);
     names.ok
@@ -62,7 +62,7 @@ pub fn has_outputs(s: &[u8], l: Line) -> bool
 // The record of line l nests above 8.
 pub fn nests(s: &[u8], l: Line, r: Rec) -> bool
     requires { Inside s.now l }
-    ensures { result ≡ nestsIn (piecesIn s.now l) r }
+    ensures { result ≡ nests_in (pieces_in s.now l) r }
 {
     match r {
         Rec::Let(n) => too_deep(s, l),
@@ -73,7 +73,7 @@ pub fn nests(s: &[u8], l: Line, r: Rec) -> bool
 // The formula of a line nests above 8.
 pub fn too_deep(s: &[u8], l: Line) -> bool
     requires { Inside s.now l }
-    ensures { result ≡ deep (formulaOf (piecesIn s.now l)) }
+    ensures { result ≡ deep (formula_of (pieces_in s.now l)) }
 {
     let f = formula::line_formula(s, l);
     if f.ok {
@@ -84,7 +84,7 @@ pub fn too_deep(s: &[u8], l: Line) -> bool
 
 // Every operand of a statement was read.
 pub fn has_form(f: FormRead) -> bool
-    ensures { result ≡ hasForm f }
+    ensures { result ≡ has_form f }
 {
     match f {
         FormRead::Set(a) => has_term(a),
@@ -96,7 +96,7 @@ pub fn has_form(f: FormRead) -> bool
 
 // The name was read.
 pub fn has_name(n: NameRead) -> bool
-    ensures { result ≡ hasName n }
+    ensures { result ≡ has_name n }
 {
     match n {
         NameRead::Name(x) => true,
@@ -106,7 +106,7 @@ pub fn has_name(n: NameRead) -> bool
 
 // The operand was read.
 pub fn has_term(t: TermRead) -> bool
-    ensures { result ≡ hasTerm t }
+    ensures { result ≡ has_term t }
 {
     match t {
         TermRead::Name(x) => true,
@@ -117,7 +117,7 @@ pub fn has_term(t: TermRead) -> bool
 
 // The number was read.
 pub fn has_number(n: Number) -> bool
-    ensures { result ≡ hasNumber n }
+    ensures { result ≡ has_number n }
 {
     match n {
         Number::Value(v) => true,

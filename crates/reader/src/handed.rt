@@ -3,7 +3,7 @@ ghost use Rattle.std.specs.Prelude.{◌≡◌, ◌<◌, length};
 ghost use Rattle.std.proofs.Math.Option.{some};
 ghost use Rattle.grammar.specs.Line.{Inside};
 ghost use Rattle.reader.specs.Reader as reader;
-ghost use Rattle.reader.specs.Handed.{givenIn, HandedIs, LastIs};
+ghost use Rattle.reader.specs.Handed.{given_in, HandedIs, LastIs};
 
 use crate::cursor::{Ahead, Cursor};
 use crate::{cursor, formed};
@@ -35,7 +35,7 @@ pub fn hand_out(s: &[u8], at: usize, line: usize) -> Handed
 
 // The place behind what is handed out at a place.
 pub fn behind(s: &[u8], at: usize, line: usize) -> Cursor
-    ensures { result ≡ reader.placeBehind s.now at line }
+    ensures { result ≡ reader.place_behind s.now at line }
 {
     let p = placed(s, at, line);
     let end = s.len();
@@ -55,7 +55,7 @@ pub fn behind(s: &[u8], at: usize, line: usize) -> Cursor
 // Line l, which its line feed ends; c is behind it.
 pub fn hand_line(s: &[u8], l: Line, c: Cursor) -> Handed
     requires { Inside s.now l }
-    ensures { givenIn s.now result ≡ some (reader.lineGiven s.now l c) }
+    ensures { given_in s.now result ≡ some (reader.line_given s.now l c) }
 {
     if bytes::all_allowed(split::part(s, l.from, l.len)) {
         let f = line::field(s, l, 0);

@@ -1,7 +1,7 @@
 // A reader: it holds a text, and its place in it. Each function takes it apart and calls the one
 // on the text and the place.
 ghost use Rattle.std.specs.Prelude.{◌≡◌};
-ghost use Rattle.reader.specs.Handed.{opened, movedOn, HandedIs};
+ghost use Rattle.reader.specs.Handed.{opened, moved_on, HandedIs};
 
 use crate::handed;
 use crate::handed::Handed;
@@ -34,7 +34,7 @@ pub fn next<'a>(r: Reader<'a>) -> Handed
 
 // The reader behind what it hands out; at the end it stays.
 pub fn moved<'a>(r: Reader<'a>) -> Reader<'a>
-    ensures { result ≡ movedOn r.entry }
+    ensures { result ≡ moved_on r.entry }
 {
     let c = handed::behind(r.text, r.at, r.line);
     Reader {

@@ -8,9 +8,9 @@ use lib.ListN.{replicate}
 use Rattle.rules.specs.declared.types.Operand.TheVariants.{Place, Byte}
 use Rattle.rules.specs.declared.types.Op.TheVariants.{Set, Xor, Mul, App, Rand}
 use Rattle.tokens.specs.Ascii.{ascii}
-use Rattle.rules.specs.Open.{text-open}
+use Rattle.rules.specs.Open.{text_open}
 use Rattle.rules.specs.Read.{Reading, refused, accepted}
-use Rattle.rules.specs.Read.{readText}
+use Rattle.rules.specs.Read.{read_text}
 
 -- A text, and what reading it gives.
 abbrev Example : Type 0
@@ -33,7 +33,7 @@ e1 = (
         ∷ record { op = Xor (Place 1) (Place 2); line = 8 }
         ∷ [];
     outputs = 3 ∷ 4 ∷ [];
-    outputLine = 9;
+    output_line = 9;
   }),
 )
 
@@ -54,7 +54,7 @@ e2 = (
         ∷ record { op = Set (Place 1); line = 8 }
         ∷ [];
     outputs = 3 ∷ 4 ∷ [];
-    outputLine = 9;
+    output_line = 9;
   }),
 )
 
@@ -72,7 +72,7 @@ e3 = (
     result = 1;
     masked = record { op = App 0 (Place 0); line = 8 } ∷ record { op = App 0 (Place 1); line = 9 } ∷ [];
     outputs = 2 ∷ 3 ∷ [];
-    outputLine = 10;
+    output_line = 10;
   }),
 )
 
@@ -100,13 +100,13 @@ e13 = (
     result = 2;
     masked = record { op = Mul (Place 0) (Byte 2); line = 8 } ∷ [];
     outputs = 2 ∷ [];
-    outputLine = 9;
+    output_line = 9;
   }),
 )
 
 -- `let` with an operand alone: a `set`
-abbrev letAlone : Example
-letAlone = (
+abbrev let_alone : Example
+let_alone = (
   "shares\t1\ninput\tx\norigin\nlet\ty\tx\nresult\ty\nmasked\nlet\tz\t#05\noutput\tz\n",
   accepted (record {
     shares = 1;
@@ -117,13 +117,13 @@ letAlone = (
     result = 1;
     masked = record { op = Set (Byte 5); line = 7 } ∷ [];
     outputs = 1 ∷ [];
-    outputLine = 8;
+    output_line = 8;
   }),
 )
 
 -- `let` with formulas that nest: left part first, inner before outer, the outermost giving the name
-abbrev letNested : Example
-letNested = (
+abbrev let_nested : Example
+let_nested = (
   "shares\t1\nmap\tsq\t00\t01\t04\t10\t40\t1b\t6c\tab\t9a\ninput\tx\norigin\nlet\ty\txor(mul(x,#02),app(sq,x))\n"
       ++ "result\ty\nmasked\nlet\tz\tapp(sq,mul(x.0,xor(x.0,#01)))\noutput\tz\n",
   accepted (record {
@@ -143,7 +143,7 @@ letNested = (
         ∷ record { op = App 0 (Place 2); line = 8 }
         ∷ [];
     outputs = 3 ∷ [];
-    outputLine = 9;
+    output_line = 9;
   }),
 )
 
@@ -205,19 +205,19 @@ refusals =
     ∷ []
 
 abbrev table : List Example
-table = e1 ∷ e2 ∷ e3 ∷ e10 ∷ e11 ∷ e13 ∷ letAlone ∷ letNested ∷ refusals
+table = e1 ∷ e2 ∷ e3 ∷ e10 ∷ e11 ∷ e13 ∷ let_alone ∷ let_nested ∷ refusals
 
 -- Reading each text of the table gives the answer beside it.
-pub read-as-stated : map (λ e. readText (ascii e.0)) table ≡ map (λ e. e.1) table
-unfolding text-open
-read-as-stated = refl
+pub read_as-stated : map (λ e. read_text (ascii e.0)) table ≡ map (λ e. e.1) table
+unfolding text_open
+read_as-stated = refl
 
 -- Refusal 2: a text of 16,385 bytes, whatever they are; one of 16,384 is read, and lacks its line feed.
-pub too_long : readText (replicate 16385 97) ≡ refused 2 0
-unfolding text-open
+pub too_long : read_text (replicate 16385 97) ≡ refused 2 0
+unfolding text_open
 too_long = refl
 
 -- a text of 16,384 bytes is read
-pub longest : readText (replicate 16384 97) ≡ refused 4 1
-unfolding text-open
+pub longest : read_text (replicate 16384 97) ≡ refused 4 1
+unfolding text_open
 longest = refl

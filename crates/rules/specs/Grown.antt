@@ -9,12 +9,12 @@ abbrev pub giving : List Name → Block → Block
 giving ns b = record { names = b.names ++ ns; statements = b.statements }
 
 -- another stage
-unfoldable pub atStage : ℕ → State → State
-atStage k s =
+unfoldable pub at_stage : ℕ → State → State
+at_stage k s =
     record {
       stage = k;
       shares = s.shares;
-      mapNames = s.mapNames;
+      map_names = s.map_names;
       maps = s.maps;
       inputs = s.inputs;
       variables = s.variables;
@@ -25,12 +25,12 @@ atStage k s =
     }
 
 -- the share count
-unfoldable pub withShares : ℕ → State → State
-withShares k s =
+unfoldable pub with_shares : ℕ → State → State
+with_shares k s =
     record {
       stage = s.stage;
       shares = k;
-      mapNames = s.mapNames;
+      map_names = s.map_names;
       maps = s.maps;
       inputs = s.inputs;
       variables = s.variables;
@@ -41,12 +41,12 @@ withShares k s =
     }
 
 -- one more map
-unfoldable pub withMap : Name → AffineMap → State → State
-withMap n m s =
+unfoldable pub with_map : Name → AffineMap → State → State
+with_map n m s =
     record {
       stage = s.stage;
       shares = s.shares;
-      mapNames = s.mapNames ++ n ∷ [];
+      map_names = s.map_names ++ n ∷ [];
       maps = s.maps ++ m ∷ [];
       inputs = s.inputs;
       variables = s.variables;
@@ -57,12 +57,12 @@ withMap n m s =
     }
 
 -- one more input: its name in the origin set, those of its shares in the masked set, and its variables
-unfoldable pub withInput : Name → List Name → State → State
-withInput x parts s =
+unfoldable pub with_input : Name → List Name → State → State
+with_input x parts s =
     record {
       stage = s.stage;
       shares = s.shares;
-      mapNames = s.mapNames;
+      map_names = s.map_names;
       maps = s.maps;
       inputs = s.inputs + 1;
       variables = s.variables + s.shares;
@@ -73,12 +73,12 @@ withInput x parts s =
     }
 
 -- the place of the result
-unfoldable pub withResult : ℕ → State → State
-withResult p s =
+unfoldable pub with_result : ℕ → State → State
+with_result p s =
     record {
       stage = s.stage;
       shares = s.shares;
-      mapNames = s.mapNames;
+      map_names = s.map_names;
       maps = s.maps;
       inputs = s.inputs;
       variables = s.variables;
@@ -89,12 +89,12 @@ withResult p s =
     }
 
 -- the places of the outputs
-unfoldable pub withOutputs : List ℕ → State → State
-withOutputs ps s =
+unfoldable pub with_outputs : List ℕ → State → State
+with_outputs ps s =
     record {
       stage = s.stage;
       shares = s.shares;
-      mapNames = s.mapNames;
+      map_names = s.map_names;
       maps = s.maps;
       inputs = s.inputs;
       variables = s.variables;

@@ -2,41 +2,41 @@
 use Rattle.std.specs.Prelude.{ℕ, ◌+◌, ◌*◌}
 
 -- the longest text that is read
-abbrev pub mostBytes : ℕ
-mostBytes = 16384
+abbrev pub most_bytes : ℕ
+most_bytes = 16384
 
 -- the most maps
-abbrev pub mostMaps : ℕ
-mostMaps = 8
+abbrev pub most_maps : ℕ
+most_maps = 8
 
 -- the most inputs
-abbrev pub mostInputs : ℕ
-mostInputs = 4
+abbrev pub most_inputs : ℕ
+most_inputs = 4
 
 -- the most variables: the inputs' shares and the rands
-abbrev pub mostVariables : ℕ
-mostVariables = 16
+abbrev pub most_variables : ℕ
+most_variables = 16
 
 -- the most statements of both blocks together
-abbrev pub mostStatements : ℕ
-mostStatements = 256
+abbrev pub most_statements : ℕ
+most_statements = 256
 
 -- the most names of a set: the shares of inputs are variables, and each statement gives one more
-abbrev pub mostNames : ℕ
-mostNames = mostVariables + mostStatements
+abbrev pub most_names : ℕ
+most_names = most_variables + most_statements
 
 -- where the names of the origin set begin in the table of names; those of the maps stand first
-abbrev pub originFrom : ℕ
-originFrom = mostMaps
+abbrev pub origin_from : ℕ
+origin_from = most_maps
 
 -- where the names of the masked set begin in the table of names
-abbrev pub maskedFrom : ℕ
-maskedFrom = originFrom + mostNames
+abbrev pub masked_from : ℕ
+masked_from = origin_from + most_names
 
 -- the most names of the table
-abbrev pub mostEntries : ℕ
-mostEntries = maskedFrom + mostNames
+abbrev pub most_entries : ℕ
+most_entries = masked_from + most_names
 
 -- the numbers of the table, three for a name
-abbrev pub mostNumbers : ℕ
-mostNumbers = 3 * mostEntries
+abbrev pub most_numbers : ℕ
+most_numbers = 3 * most_entries

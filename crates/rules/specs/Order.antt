@@ -10,59 +10,59 @@ abbrev pub at_start : ℕ
 at_start = 0
 
 -- behind `shares`, or behind a map
-abbrev pub inMaps : ℕ
-inMaps = 1
+abbrev pub in_maps : ℕ
+in_maps = 1
 
 -- behind an input
-abbrev pub inInputs : ℕ
-inInputs = 2
+abbrev pub in_inputs : ℕ
+in_inputs = 2
 
 -- in the origin block
-abbrev pub inOrigin : ℕ
-inOrigin = 3
+abbrev pub in_origin : ℕ
+in_origin = 3
 
 -- behind `result`
-abbrev pub atResult : ℕ
-atResult = 4
+abbrev pub at_result : ℕ
+at_result = 4
 
 -- in the masked block
-abbrev pub inMasked : ℕ
-inMasked = 5
+abbrev pub in_masked : ℕ
+in_masked = 5
 
 -- behind `output`
-abbrev pub atEnd : ℕ
-atEnd = 6
+abbrev pub at_end : ℕ
+at_end = 6
 
 -- the word may stand at the stage
-abbrev pub mayStand : Word → ℕ → Bool
-mayStand Shares stage = eqb stage at_start
-mayStand Map stage = eqb stage inMaps
-mayStand Input stage = eqb stage inMaps || eqb stage inInputs
-mayStand Origin stage = eqb stage inMaps || eqb stage inInputs
-mayStand Set stage = eqb stage inOrigin || eqb stage inMasked
-mayStand Xor stage = eqb stage inOrigin || eqb stage inMasked
-mayStand Mul stage = eqb stage inOrigin || eqb stage inMasked
-mayStand App stage = eqb stage inOrigin || eqb stage inMasked
-mayStand Let stage = eqb stage inOrigin || eqb stage inMasked
-mayStand Rand stage = eqb stage inMasked
-mayStand Result stage = eqb stage inOrigin
-mayStand Masked stage = eqb stage atResult
-mayStand Output stage = eqb stage inMasked
-mayStand Unknown stage = false
+abbrev pub may_stand : Word → ℕ → Bool
+may_stand Shares stage = eqb stage at_start
+may_stand Map stage = eqb stage in_maps
+may_stand Input stage = eqb stage in_maps || eqb stage in_inputs
+may_stand Origin stage = eqb stage in_maps || eqb stage in_inputs
+may_stand Set stage = eqb stage in_origin || eqb stage in_masked
+may_stand Xor stage = eqb stage in_origin || eqb stage in_masked
+may_stand Mul stage = eqb stage in_origin || eqb stage in_masked
+may_stand App stage = eqb stage in_origin || eqb stage in_masked
+may_stand Let stage = eqb stage in_origin || eqb stage in_masked
+may_stand Rand stage = eqb stage in_masked
+may_stand Result stage = eqb stage in_origin
+may_stand Masked stage = eqb stage at_result
+may_stand Output stage = eqb stage in_masked
+may_stand Unknown stage = false
 
 -- the stage behind a word that may stand at a stage
-abbrev pub stageAfter : Word → ℕ → ℕ
-stageAfter Shares stage = inMaps
-stageAfter Map stage = inMaps
-stageAfter Input stage = inInputs
-stageAfter Origin stage = inOrigin
-stageAfter Set stage = stage
-stageAfter Xor stage = stage
-stageAfter Mul stage = stage
-stageAfter App stage = stage
-stageAfter Let stage = stage
-stageAfter Rand stage = stage
-stageAfter Result stage = atResult
-stageAfter Masked stage = inMasked
-stageAfter Output stage = atEnd
-stageAfter Unknown stage = stage
+abbrev pub stage_after : Word → ℕ → ℕ
+stage_after Shares stage = in_maps
+stage_after Map stage = in_maps
+stage_after Input stage = in_inputs
+stage_after Origin stage = in_origin
+stage_after Set stage = stage
+stage_after Xor stage = stage
+stage_after Mul stage = stage
+stage_after App stage = stage
+stage_after Let stage = stage
+stage_after Rand stage = stage
+stage_after Result stage = at_result
+stage_after Masked stage = in_masked
+stage_after Output stage = at_end
+stage_after Unknown stage = stage

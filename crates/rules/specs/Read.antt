@@ -5,15 +5,15 @@ use Rattle.std.proofs.Math.Option.{Option, none, some}
 use Rattle.tokens.specs.declared.word.Word.{Word}
 use Rattle.rules.specs.declared.types.Statement.{Statement}
 use Rattle.rules.specs.declared.types.AffineMap.{AffineMap}
-use Rattle.tokens.specs.Ascii.{all, allowed, tab, lineFeed}
+use Rattle.tokens.specs.Ascii.{all, allowed, tab, line_feed}
 use Rattle.tokens.specs.Split.{pieces}
-use Rattle.grammar.specs.Record.{Record, field, recordFor, nests}
-use Rattle.tokens.specs.Word.{wordOf}
-use Rattle.rules.specs.Limits.{mostBytes}
-use Rattle.rules.specs.Order.{mayStand, stageAfter, atEnd}
+use Rattle.grammar.specs.Record.{Record, field, record_for, nests}
+use Rattle.tokens.specs.Word.{word_of}
+use Rattle.rules.specs.Limits.{most_bytes}
+use Rattle.rules.specs.Order.{may_stand, stage_after, at_end}
 use Rattle.rules.specs.State.{State, start}
-use Rattle.rules.specs.Grown.{atStage}
-use Rattle.rules.specs.Faults.{repeats, readsUnknown, exceeds, miscounts}
+use Rattle.rules.specs.Grown.{at_stage}
+use Rattle.rules.specs.Faults.{repeats, reads_unknown, exceeds, miscounts}
 use Rattle.rules.specs.Added.{added}
 
 -- What an accepted text holds. A statement's place in its set follows those of the inputs, or of their shares, and of
@@ -27,7 +27,7 @@ pub record Routine : Type 0 where
   pub result : ℕ
   pub masked : List Statement
   pub outputs : List ℕ
-  pub outputLine : ℕ
+  pub output_line : ℕ
 
 -- the answer for a text: a refusal's number and line, or the routine that it holds
 pub data Reading : Type 0 where
@@ -54,27 +54,27 @@ unless zero s = next s
 unless (suc e) s = stop (suc e)
 
 -- line n, whose word and fields make the record or none
-unfoldable pub takeRecord : State → ℕ → Word → Option Record → Outcome
-takeRecord s n w none = stop 5
-takeRecord s n w (some r) =
+unfoldable pub take_record : State → ℕ → Word → Option Record → Outcome
+take_record s n w none = stop 5
+take_record s n w (some r) =
     unless
     (first_of
     ((13, nests r)
-    ∷ (6, not (mayStand w s.stage))
+    ∷ (6, not (may_stand w s.stage))
     ∷ (7, repeats s r)
-    ∷ (8, readsUnknown s r)
+    ∷ (8, reads_unknown s r)
     ∷ (9, exceeds s r)
     ∷ (10, miscounts s r)
     ∷ []))
-    (atStage (stageAfter w s.stage) (added n r s))
+    (at_stage (stage_after w s.stage) (added n r s))
 
 -- line n, by its pieces
-unfoldable pub takePieces : State → ℕ → List (List ℕ) → Outcome
-takePieces s n ps = takeRecord s n (wordOf (field 0 ps)) (recordFor (wordOf (field 0 ps)) ps)
+unfoldable pub take_pieces : State → ℕ → List (List ℕ) → Outcome
+take_pieces s n ps = take_record s n (word_of (field 0 ps)) (record_for (word_of (field 0 ps)) ps)
 
 -- line n, which its line feed ends
-unfoldable pub takeLine : State → ℕ → List ℕ → Outcome
-takeLine s n l = cond (all allowed l) (takePieces s n (pieces tab l)) (stop 3)
+unfoldable pub take_line : State → ℕ → List ℕ → Outcome
+take_line s n l = cond (all allowed l) (take_pieces s n (pieces tab l)) (stop 3)
 
 -- the routine of a text that ended at line n
 unfoldable pub routine : State → ℕ → Routine
@@ -88,13 +88,13 @@ routine s n =
       result = s.result;
       masked = s.masked.statements;
       outputs = s.outputs;
-      outputLine = n;
+      output_line = n;
     }
 
 -- what stands behind the last line feed, at line n + 1: nothing, or a line that lacks its line feed
-unfoldable pub takeLast : State → ℕ → List ℕ → Reading
-takeLast s n [] = cond (eqb s.stage atEnd) (accepted (routine s n)) (refused 6 (n + 1))
-takeLast s n (b ∷ l) = refused (cond (all allowed (b ∷ l)) 4 3) (n + 1)
+unfoldable pub take_last : State → ℕ → List ℕ → Reading
+take_last s n [] = cond (eqb s.stage at_end) (accepted (routine s n)) (refused 6 (n + 1))
+take_last s n (b ∷ l) = refused (cond (all allowed (b ∷ l)) 4 3) (n + 1)
 
 -- what line n leads to: its refusal, or the rest of the text
 unfoldable pub follow : Outcome → ℕ → (State → Reading) → Reading
@@ -102,11 +102,11 @@ follow (stop e) n rest = refused e n
 follow (next t) n rest = rest t
 
 -- the lines that follow line n
-unfoldable pub takeLines : State → ℕ → List (List ℕ) → Reading
-takeLines s n [] = refused 6 (n + 1)
-takeLines s n (l ∷ []) = takeLast s n l
-takeLines s n (l ∷ m ∷ ls) = follow (takeLine s (n + 1) l) (n + 1) (λ t. takeLines t (n + 1) (m ∷ ls))
+unfoldable pub take_lines : State → ℕ → List (List ℕ) → Reading
+take_lines s n [] = refused 6 (n + 1)
+take_lines s n (l ∷ []) = take_last s n l
+take_lines s n (l ∷ m ∷ ls) = follow (take_line s (n + 1) l) (n + 1) (λ t. take_lines t (n + 1) (m ∷ ls))
 
 -- Refusal 2, at line 0; or what the lines give.
-unfoldable pub readText : List ℕ → Reading
-readText s = cond (ltb mostBytes (length s)) (refused 2 0) (takeLines start 0 (pieces lineFeed s))
+unfoldable pub read_text : List ℕ → Reading
+read_text s = cond (ltb most_bytes (length s)) (refused 2 0) (take_lines start 0 (pieces line_feed s))

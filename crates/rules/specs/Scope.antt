@@ -23,33 +23,33 @@ unfoldable pub missing : List Name → Name → Bool
 missing ms n = not (given n ms)
 
 -- some name of the list stands before its place, in the list or among those seen
-unfoldable pub repeatedIn : List Name → List Name → Bool
-repeatedIn seen [] = false
-repeatedIn seen (n ∷ ns) = given n seen || repeatedIn (seen ++ n ∷ []) ns
+unfoldable pub repeated_in : List Name → List Name → Bool
+repeated_in seen [] = false
+repeated_in seen (n ∷ ns) = given n seen || repeated_in (seen ++ n ∷ []) ns
 
 -- some name stands in the list twice
 unfoldable pub repeated : List Name → Bool
-repeated ns = repeatedIn [] ns
+repeated ns = repeated_in [] ns
 
 -- an operand that is no name given in the set
-unfoldable pub unknownTerm : List Name → Term → Bool
-unknownTerm ms (name n) = missing ms n
-unknownTerm ms (byte b) = false
+unfoldable pub unknown_term : List Name → Term → Bool
+unknown_term ms (name n) = missing ms n
+unknown_term ms (byte b) = false
 
 -- what a statement reads is not all given, among the names of its set and of the maps
-unfoldable pub unknownForm : List Name → List Name → Form → Bool
-unknownForm ms maps (set a) = unknownTerm ms a
-unknownForm ms maps (xor a b) = unknownTerm ms a || unknownTerm ms b
-unknownForm ms maps (mul a b) = unknownTerm ms a || unknownTerm ms b
-unknownForm ms maps (app f a) = missing maps f || unknownTerm ms a
-unknownForm ms maps rand = false
+unfoldable pub unknown_form : List Name → List Name → Form → Bool
+unknown_form ms maps (set a) = unknown_term ms a
+unknown_form ms maps (xor a b) = unknown_term ms a || unknown_term ms b
+unknown_form ms maps (mul a b) = unknown_term ms a || unknown_term ms b
+unknown_form ms maps (app f a) = missing maps f || unknown_term ms a
+unknown_form ms maps rand = false
 
 -- what a formula reads is not all given, among the names of its set and of the maps
-unfoldable pub unknownFormula : List Name → List Name → Formula → Bool
-unknownFormula ms maps (operand a) = unknownTerm ms a
-unknownFormula ms maps (formula.xor a b) = unknownFormula ms maps a || unknownFormula ms maps b
-unknownFormula ms maps (formula.mul a b) = unknownFormula ms maps a || unknownFormula ms maps b
-unknownFormula ms maps (formula.app f a) = missing maps f || unknownFormula ms maps a
+unfoldable pub unknown_formula : List Name → List Name → Formula → Bool
+unknown_formula ms maps (operand a) = unknown_term ms a
+unknown_formula ms maps (formula.xor a b) = unknown_formula ms maps a || unknown_formula ms maps b
+unknown_formula ms maps (formula.mul a b) = unknown_formula ms maps a || unknown_formula ms maps b
+unknown_formula ms maps (formula.app f a) = missing maps f || unknown_formula ms maps a
 
 -- the variables that a statement draws
 unfoldable pub drawn : Form → ℕ
@@ -60,28 +60,28 @@ drawn (app f a) = 0
 drawn rand = 1
 
 -- how many statements a `let` counts as: one for each operation, and one for an operand alone
-unfoldable pub letCount : Formula → ℕ
-letCount (operand a) = 1
-letCount (formula.xor a b) = operations (formula.xor a b)
-letCount (formula.mul a b) = operations (formula.mul a b)
-letCount (formula.app f a) = operations (formula.app f a)
+unfoldable pub let_count : Formula → ℕ
+let_count (operand a) = 1
+let_count (formula.xor a b) = operations (formula.xor a b)
+let_count (formula.mul a b) = operations (formula.mul a b)
+let_count (formula.app f a) = operations (formula.app f a)
 
 -- an operand: its value's place, or its byte
-unfoldable pub operandIn : List Name → Term → Operand
-operandIn ms (name n) = Place (place_of n ms)
-operandIn ms (byte b) = Byte b
+unfoldable pub operand_in : List Name → Term → Operand
+operand_in ms (name n) = Place (place_of n ms)
+operand_in ms (byte b) = Byte b
 
 -- what a statement computes; v is the next variable
-unfoldable pub opIn : List Name → List Name → ℕ → Form → Op
-opIn ms maps v (set a) = Set (operandIn ms a)
-opIn ms maps v (xor a b) = Xor (operandIn ms a) (operandIn ms b)
-opIn ms maps v (mul a b) = Mul (operandIn ms a) (operandIn ms b)
-opIn ms maps v (app f a) = App (place_of f maps) (operandIn ms a)
-opIn ms maps v rand = Rand v
+unfoldable pub op_in : List Name → List Name → ℕ → Form → Op
+op_in ms maps v (set a) = Set (operand_in ms a)
+op_in ms maps v (xor a b) = Xor (operand_in ms a) (operand_in ms b)
+op_in ms maps v (mul a b) = Mul (operand_in ms a) (operand_in ms b)
+op_in ms maps v (app f a) = App (place_of f maps) (operand_in ms a)
+op_in ms maps v rand = Rand v
 
 -- the operand that a formula's value is, the first of its operations giving the value at place `at`
 unfoldable pub value_of : List Name → ℕ → Formula → Operand
-value_of ms at (operand a) = operandIn ms a
+value_of ms at (operand a) = operand_in ms a
 value_of ms at (formula.xor a b) = Place (at + (operations a + operations b))
 value_of ms at (formula.mul a b) = Place (at + (operations a + operations b))
 value_of ms at (formula.app f a) = Place (at + operations a)
@@ -98,13 +98,13 @@ compiled ms maps at (formula.mul a b) =
 compiled ms maps at (formula.app f a) = compiled ms maps at a ++ App (place_of f maps) (value_of ms at a) ∷ []
 
 -- the operations of a `let`: an operand alone counts as a `set`
-unfoldable pub letOps : List Name → List Name → ℕ → Formula → List Op
-letOps ms maps at (operand a) = Set (operandIn ms a) ∷ []
-letOps ms maps at (formula.xor a b) = compiled ms maps at (formula.xor a b)
-letOps ms maps at (formula.mul a b) = compiled ms maps at (formula.mul a b)
-letOps ms maps at (formula.app f a) = compiled ms maps at (formula.app f a)
+unfoldable pub let_ops : List Name → List Name → ℕ → Formula → List Op
+let_ops ms maps at (operand a) = Set (operand_in ms a) ∷ []
+let_ops ms maps at (formula.xor a b) = compiled ms maps at (formula.xor a b)
+let_ops ms maps at (formula.mul a b) = compiled ms maps at (formula.mul a b)
+let_ops ms maps at (formula.app f a) = compiled ms maps at (formula.app f a)
 
 -- x.i, x.(i+1) and on, k of them
-unfoldable pub shareNames : Name → ℕ → ℕ → List Name
-shareNames x i zero = []
-shareNames x i (suc k) = record { base = x.base; part = i } ∷ shareNames x (i + 1) k
+unfoldable pub share_names : Name → ℕ → ℕ → List Name
+share_names x i zero = []
+share_names x i (suc k) = record { base = x.base; part = i } ∷ share_names x (i + 1) k

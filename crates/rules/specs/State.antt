@@ -14,7 +14,7 @@ pub record Block : Type 0 where
 pub record State : Type 0 where
   pub stage : ℕ
   pub shares : ℕ
-  pub mapNames : List Name
+  pub map_names : List Name
   pub maps : List AffineMap
   pub inputs : ℕ
   pub variables : ℕ
@@ -33,7 +33,7 @@ start =
     record {
       stage = at_start;
       shares = 0;
-      mapNames = [];
+      map_names = [];
       maps = [];
       inputs = 0;
       variables = 0;

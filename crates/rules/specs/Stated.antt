@@ -15,20 +15,20 @@ abbrev pub unnamed : Name
 unnamed = record { base = []; part = no_part }
 
 -- the statements of a formula: the last gives the name, and the values of those before it have none
-abbrev pub statingAll : Name → List Statement → Block → Block
-statingAll n sts b =
+abbrev pub stating_all : Name → List Statement → Block → Block
+stating_all n sts b =
     record {
       names = b.names ++ (replicate (length sts - 1) unnamed ++ n ∷ []);
       statements = b.statements ++ sts;
     }
 
 -- another origin block
-abbrev pub originAs : Block → State → State
-originAs b s =
+abbrev pub origin_as : Block → State → State
+origin_as b s =
     record {
       stage = s.stage;
       shares = s.shares;
-      mapNames = s.mapNames;
+      map_names = s.map_names;
       maps = s.maps;
       inputs = s.inputs;
       variables = s.variables;
@@ -39,12 +39,12 @@ originAs b s =
     }
 
 -- another masked block, v variables in all
-abbrev pub maskedAs : Block → ℕ → State → State
-maskedAs b v s =
+abbrev pub masked_as : Block → ℕ → State → State
+masked_as b v s =
     record {
       stage = s.stage;
       shares = s.shares;
-      mapNames = s.mapNames;
+      map_names = s.map_names;
       maps = s.maps;
       inputs = s.inputs;
       variables = v;
@@ -55,17 +55,17 @@ maskedAs b v s =
     }
 
 -- one more statement of the origin block
-unfoldable pub withOrigin : Name → Statement → State → State
-withOrigin n st s = originAs (stating n st s.origin) s
+unfoldable pub with_origin : Name → Statement → State → State
+with_origin n st s = origin_as (stating n st s.origin) s
 
 -- one more statement of the masked block, with the variables that it draws
-unfoldable pub withMasked : ℕ → Name → Statement → State → State
-withMasked drawn n st s = maskedAs (stating n st s.masked) (s.variables + drawn) s
+unfoldable pub with_masked : ℕ → Name → Statement → State → State
+with_masked drawn n st s = masked_as (stating n st s.masked) (s.variables + drawn) s
 
 -- the statements of a formula in the origin block
-unfoldable pub withOriginAll : Name → List Statement → State → State
-withOriginAll n sts s = originAs (statingAll n sts s.origin) s
+unfoldable pub with_origin_all : Name → List Statement → State → State
+with_origin_all n sts s = origin_as (stating_all n sts s.origin) s
 
 -- the statements of a formula in the masked block
-unfoldable pub withMaskedAll : Name → List Statement → State → State
-withMaskedAll n sts s = maskedAs (statingAll n sts s.masked) s.variables s
+unfoldable pub with_masked_all : Name → List Statement → State → State
+with_masked_all n sts s = masked_as (stating_all n sts s.masked) s.variables s

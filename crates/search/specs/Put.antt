@@ -4,10 +4,10 @@ use Rattle.field.specs.Field.{Modulus, times, power}
 use Rattle.field.specs.Maps.{list_of}
 use Rattle.field.specs.Laws.{Ops, gf}
 use Rattle.poly.specs.Poly.{term, Poly, order}
-use Rattle.poly.specs.First.{putSlotRaw, putSlot}
+use Rattle.poly.specs.First.{put_slot_raw, put_slot}
 use Rattle.poly.specs.Canon.{Powers, Canon}
 use Rattle.poly.specs.Pass.{gather}
-use Rattle.buffer.specs.Buffer.{readTerms, answer}
+use Rattle.buffer.specs.Buffer.{read_terms, answer}
 use Rattle.buffer.specs.Insert.{Holds}
 
 -- the first i powers are zero
@@ -19,22 +19,22 @@ pub record PutAsked (m : ℕ) (b : List ℕ) (k w i : ℕ) : Type 0 where
   pub modulus : Modulus m
   pub inside : suc i < w
   pub source : k * w ≤ length b
-  pub canon : Canon (w - 1) (readTerms (w - 1) b 0 k)
-  pub led : Powers (Led i) (readTerms (w - 1) b 0 k)
+  pub canon : Canon (w - 1) (read_terms (w - 1) b 0 k)
+  pub led : Powers (Led i) (read_terms (w - 1) b 0 k)
 
 -- r terms are left of the k when a is put in for variable i; where none is, the buffer is as it was
 pub record Put (m : ℕ) (b b' : List ℕ) (k w i a r : ℕ) : Type 0 where
-  pub held : Holds b b' w (k * w) r (putSlot (gf m) i a (readTerms (w - 1) b 0 k))
+  pub held : Holds b b' w (k * w) r (put_slot (gf m) i a (read_terms (w - 1) b 0 k))
   pub most : r ≤ k
   pub kept : r ≡ 0 → b' ≡ b
 
 -- ---- one term of a pass
 
 -- the second term of the list has the powers of the first, those up to variable i left out
-abbrev pub sameNext : ℕ → Poly → Bool
-sameNext i [] = false
-sameNext i (t ∷ []) = false
-sameNext i (term c e ∷ term d f ∷ q) = eqb (answer (order (drop (suc i) e) (drop (suc i) f))) 1
+abbrev pub same_next : ℕ → Poly → Bool
+same_next i [] = false
+same_next i (t ∷ []) = false
+same_next i (term c e ∷ term d f ∷ q) = eqb (answer (order (drop (suc i) e) (drop (suc i) f))) 1
 
 -- what is still to be written, with the sum c gathered for the group of the next term
 abbrev pub carry : Ops → ℕ → Poly → Poly
@@ -44,7 +44,7 @@ carry F c (term d f ∷ q) = gather F (F.add c d) f q
 -- the terms written, and what the sum c and the terms from j on still give
 abbrev pub onward : ℕ → List ℕ → ℕ → ℕ → ℕ → ℕ → ℕ → ℕ → ℕ → Poly
 onward m b k w i a j r c =
-    readTerms (w - 1) b 0 r ++ carry (gf m) c (putSlotRaw (gf m) i a (readTerms (w - 1) b (j * w) (k - j)))
+    read_terms (w - 1) b 0 r ++ carry (gf m) c (put_slot_raw (gf m) i a (read_terms (w - 1) b (j * w) (k - j)))
 
 -- r terms are written, and term j of the k is read next
 pub record StepAsked (b : List ℕ) (k w i j r : ℕ) : Type 0 where
@@ -52,7 +52,7 @@ pub record StepAsked (b : List ℕ) (k w i j r : ℕ) : Type 0 where
   pub source : k * w ≤ length b
   pub next : j < k
   pub written : r ≤ j
-  pub led : Powers (Led i) (readTerms (w - 1) b (j * w) (k - j))
+  pub led : Powers (Led i) (read_terms (w - 1) b (j * w) (k - j))
 
 -- term j is read: c became c', r terms became r', and the terms behind it are as they were
 pub record Stepped (m : ℕ) (b b' : List ℕ) (k w i a j r c r' c' : ℕ) : Type 0 where

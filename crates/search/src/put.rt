@@ -1,8 +1,8 @@
 // A byte put in for a variable, in place: one pass over the terms, in which neighbours are joined.
 ghost use Rattle.std.specs.Prelude.{◌≡◌, ◌∷◌, suc, ◌+◌, ◌*◌, ◌-◌, ◌<◌, ◌≤◌, length, set, take, drop};
-ghost use Rattle.buffer.specs.Buffer.{readTerms};
+ghost use Rattle.buffer.specs.Buffer.{read_terms};
 ghost use Rattle.buffer.specs.Move.{Written};
-ghost use Rattle.search.specs.Put.{PutAsked, Put, sameNext, StepAsked, SteppedBy};
+ghost use Rattle.search.specs.Put.{PutAsked, Put, same_next, StepAsked, SteppedBy};
 
 use buffer::term::{compare_powers, move_down};
 use field::{power_table, times};
@@ -74,7 +74,7 @@ fn put_step(
 // Whether a term stands behind term j that differs from it in the powers up to variable i alone.
 fn same_group(b: &[u8], k: usize, w: usize, i: usize, j: usize) -> bool
     requires { (suc i < w) × (j < k) × (k * w ≤ length b.now) }
-    ensures { result ≡ sameNext i (readTerms (w - 1) b.now (j * w) (k - j)) }
+    ensures { result ≡ same_next i (read_terms (w - 1) b.now (j * w) (k - j)) }
 {
     if k - j == 1 {
         return false;

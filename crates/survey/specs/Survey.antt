@@ -3,18 +3,18 @@
 use Rattle.std.specs.Prelude.{◌≡◌, ℕ, ◌+◌, ◌*◌, ◌≤◌, true, false, cond, List, ltb, length, take}
 use Rattle.std.proofs.Math.Option.{none, some}
 use Rattle.text.specs.declared.routine.Routine as code
-use Rattle.rules.specs.Limits.{mostVariables}
-use Rattle.text.specs.Routine.{mapsOf, routine_of, Counted}
+use Rattle.rules.specs.Limits.{most_variables}
+use Rattle.text.specs.Routine.{maps_of, routine_of, Counted}
 use Rattle.rules.specs.Formed.{Formed}
 use Rattle.rules.specs.Ranged.{Ranged}
 use Rattle.verdict.specs.Instances.{symbolic}
-use Rattle.verdict.specs.Count.{lastStep, unknownLine}
+use Rattle.verdict.specs.Count.{last_step, unknown_line}
 use Rattle.values.specs.declared.shelf.Shelf.{Shelf}
 use Rattle.values.specs.declared.source.Scope.{Scope}
 use Rattle.survey.specs.declared.walk.Walk.{Walk}
 use Rattle.values.specs.Shelf.{Sound, bare}
 use Rattle.values.specs.Source.{reach}
-use Rattle.values.specs.Raw.{mostStanding, Tabled}
+use Rattle.values.specs.Raw.{most_standing, Tabled}
 use Rattle.survey.specs.Walk.{Walked}
 
 -- the low byte of the modulus
@@ -22,16 +22,16 @@ abbrev pub modulus : ℕ
 modulus = 27
 
 -- the bytes of a term: its coefficient, and a power for each variable
-abbrev pub termBytes : code.Routine → ℕ
-termBytes r = r.variables + 1
+abbrev pub term_bytes : code.Routine → ℕ
+term_bytes r = r.variables + 1
 
 -- the origin block begins with the inputs, each the sum of its shares; it draws nothing
-abbrev pub originScope : code.Routine → Scope
-originScope r = record { begins = r.inputs; width = r.shares; base = 0; drawn = 0 }
+abbrev pub origin_scope : code.Routine → Scope
+origin_scope r = record { begins = r.inputs; width = r.shares; base = 0; drawn = 0 }
 
 -- the masked block begins with the shares of all inputs, and may draw every variable
-abbrev pub maskedScope : code.Routine → Scope
-maskedScope r = record { begins = r.inputs * r.shares; width = 1; base = r.origin; drawn = r.variables }
+abbrev pub masked_scope : code.Routine → Scope
+masked_scope r = record { begins = r.inputs * r.shares; width = 1; base = r.origin; drawn = r.variables }
 
 -- what reading gives of the routine of an accepted text
 pub record Ready (r : code.Routine) : Type 0 where
@@ -41,48 +41,48 @@ pub record Ready (r : code.Routine) : Type 0 where
 
 -- two work buffers of one length, with room for the most terms of the most variables
 pub record Lent (left right : List ℕ) : Type 0 where
-  pub room : mostStanding * (mostVariables + 1) ≤ length left
+  pub room : most_standing * (most_variables + 1) ≤ length left
   pub same : length left ≡ length right
 
 -- what a walk over a block asks
 pub record BlockAsked (r : code.Routine) (lists : List (List ℕ)) (constants left right : List ℕ) : Type 0 where
   pub ready : Ready r
   pub lent : Lent left right
-  pub tabled : Tabled modulus (mapsOf r) lists constants
+  pub tabled : Tabled modulus (maps_of r) lists constants
 
 -- the directory holds the values of the origin block, and no more than the limit stands
 pub record Begun (r : code.Routine) (d : Shelf) : Type 0 where
   pub sound : Sound d
   pub count : d.count ≡ r.origin
-  pub top : d.top ≤ mostStanding
+  pub top : d.top ≤ most_standing
 
 -- the outcome of the walk over the origin block
 abbrev pub OriginWalked : code.Routine → List ℕ → List ℕ → Walk → Type 0
 OriginWalked r left left' q =
-    Walked modulus (mapsOf r) r.statements 0 r.origin (originScope r) bare left (termBytes r) mostStanding left' q
+    Walked modulus (maps_of r) r.statements 0 r.origin (origin_scope r) bare left (term_bytes r) most_standing left' q
 
 -- the outcome of the walk over the masked block, above the values of the directory d
 abbrev pub MaskedWalked : code.Routine → Shelf → List ℕ → List ℕ → Walk → Type 0
 MaskedWalked r d left left' q =
-    Walked modulus (mapsOf r) r.statements r.origin (r.origin + r.masked) (maskedScope r) d left
-    (termBytes r) mostStanding left' q
+    Walked modulus (maps_of r) r.statements r.origin (r.origin + r.masked) (masked_scope r) d left
+    (term_bytes r) most_standing left' q
 
 -- the directory alone: the values of both blocks have places, and no more than the limit stands
 pub record Directed (r : code.Routine) (d : Shelf) : Type 0 where
   pub sound : Sound d
   pub base : r.origin ≤ d.count
-  pub top : d.top ≤ mostStanding
+  pub top : d.top ≤ most_standing
 
 -- the values of both blocks stand in the buffer; the difference alone is left to count
 pub record Standing (r : code.Routine) (left : List ℕ) (d : Shelf) : Type 0 where
   pub directed : Directed r d
-  pub origin : take (r.inputs + r.origin) (reach (termBytes r) left d (originScope r))
+  pub origin : take (r.inputs + r.origin) (reach (term_bytes r) left d (origin_scope r))
       ≡ (symbolic (routine_of r)).origin
-  pub masked : reach (termBytes r) left d (maskedScope r) ≡ (symbolic (routine_of r)).masked
-  pub last : unknownLine (routine_of r) (symbolic (routine_of r))
-      ≡ cond (ltb mostStanding (d.top + (lastStep (routine_of r) (symbolic (routine_of r))).raw)) (some r.line) none
+  pub masked : reach (term_bytes r) left d (masked_scope r) ≡ (symbolic (routine_of r)).masked
+  pub last : unknown_line (routine_of r) (symbolic (routine_of r))
+      ≡ cond (ltb most_standing (d.top + (last_step (routine_of r) (symbolic (routine_of r))).raw)) (some r.line) none
 
 -- the whole outcome of both walks: the line at which the routine is given up, or all values
 pub record Surveyed (r : code.Routine) (left : List ℕ) (q : Walk) : Type 0 where
-  pub given : q.over ≡ true → unknownLine (routine_of r) (symbolic (routine_of r)) ≡ some q.line
+  pub given : q.over ≡ true → unknown_line (routine_of r) (symbolic (routine_of r)) ≡ some q.line
   pub stands : q.over ≡ false → Standing r left q.shelf

@@ -13,26 +13,26 @@ use Rattle.values.specs.declared.shelf.Shelf.{Shelf}
 use Rattle.values.specs.declared.source.Scope.{Scope}
 use Rattle.survey.specs.declared.walk.Walk.{Walk}
 use Rattle.values.specs.Shelf.{stored, Sound}
-use Rattle.values.specs.Source.{variablesOf, reach}
-use Rattle.values.specs.Raw.{mostStanding, rawIn, Tabled, Inside, SizeAsked}
+use Rattle.values.specs.Source.{variables_of, reach}
+use Rattle.values.specs.Raw.{most_standing, raw_in, Tabled, Inside, SizeAsked}
 use Rattle.values.specs.Value.{Workable}
 
 -- the line of the first statement at which what stands and the raw size exceed the limit; vs are the values so far, xs
 -- the
 -- variables, and top what stands
-unfoldable pub overIn : (most m n : ℕ) → List AffineMap → List Poly → List Poly → ℕ → List Statement → Option ℕ
-overIn most m n maps xs vs top [] = none
-overIn most m n maps xs vs top (s ∷ ss) =
+unfoldable pub over_in : (most m n : ℕ) → List AffineMap → List Poly → List Poly → ℕ → List Statement → Option ℕ
+over_in most m n maps xs vs top [] = none
+over_in most m n maps xs vs top (s ∷ ss) =
     let v = given (polynomials m n) maps xs vs s.op in
-    let rest = overIn most m n maps xs (vs ++ v ∷ []) (top + length v) ss in
-    cond (ltb most (top + rawIn m n maps vs s.op)) (some s.line) rest
+    let rest = over_in most m n maps xs (vs ++ v ∷ []) (top + length v) ss in
+    cond (ltb most (top + raw_in m n maps vs s.op)) (some s.line) rest
 
 -- what stands after the statements
-unfoldable pub topIn : (m n : ℕ) → List AffineMap → List Poly → List Poly → ℕ → List Statement → ℕ
-topIn m n maps xs vs top [] = top
-topIn m n maps xs vs top (s ∷ ss) =
+unfoldable pub top_in : (m n : ℕ) → List AffineMap → List Poly → List Poly → ℕ → List Statement → ℕ
+top_in m n maps xs vs top [] = top
+top_in m n maps xs vs top (s ∷ ss) =
     let v = given (polynomials m n) maps xs vs s.op in
-    topIn m n maps xs (vs ++ v ∷ []) (top + length v) ss
+    top_in m n maps xs (vs ++ v ∷ []) (top + length v) ss
 
 -- what an array of statements reads as past its end
 abbrev pub blank : Statement
@@ -43,9 +43,9 @@ abbrev pub part : List Statement → ℕ → ℕ → List Statement
 part statements i to = take (to - i) (drop i statements)
 
 -- a line, or none
-abbrev pub lineIf : Bool → ℕ → Option ℕ
-lineIf true line = some line
-lineIf false line = none
+abbrev pub line_if : Bool → ℕ → Option ℕ
+line_if true line = some line
+line_if false line = none
 
 -- what a walk over the statements from..to asks
 pub record WalkAsked (m : ℕ) (lists : List (List ℕ)) (constants : List ℕ) (maps : List AffineMap)
@@ -60,7 +60,7 @@ pub record WalkAsked (m : ℕ) (lists : List (List ℕ)) (constants : List ℕ) 
   pub inside : to ≤ 256
   pub count : d.count + (to - from) ≤ 256
   pub reads : (i : ℕ) → from ≤ i → i < to → Inside s.drawn (get_or statements i blank).op
-  pub bounded : most ≤ mostStanding
+  pub bounded : most ≤ most_standing
   pub top : d.top ≤ most
   pub room : most * w ≤ length left
 
@@ -75,17 +75,17 @@ pub record Holds (m : ℕ) (maps : List AffineMap) (statements : List Statement)
   pub count : d.count ≡ d₀.count + (i - from)
   pub top : d.top ≤ most
   pub kept : take s.base (stored w left d) ≡ take s.base (stored w left₀ d₀)
-  pub rest : values (polynomials m (w - 1)) maps (variablesOf (w - 1) s) (reach w left d s) (part statements i to)
-      ≡ values (polynomials m (w - 1)) maps (variablesOf (w - 1) s) (reach w left₀ d₀ s) (part statements from to)
-  pub over : overIn most m (w - 1) maps (variablesOf (w - 1) s) (reach w left d s) d.top (part statements i to)
-      ≡ overIn most m (w - 1) maps (variablesOf (w - 1) s) (reach w left₀ d₀ s) d₀.top (part statements from to)
-  pub stands : topIn m (w - 1) maps (variablesOf (w - 1) s) (reach w left d s) d.top (part statements i to)
-      ≡ topIn m (w - 1) maps (variablesOf (w - 1) s) (reach w left₀ d₀ s) d₀.top (part statements from to)
+  pub rest : values (polynomials m (w - 1)) maps (variables_of (w - 1) s) (reach w left d s) (part statements i to)
+      ≡ values (polynomials m (w - 1)) maps (variables_of (w - 1) s) (reach w left₀ d₀ s) (part statements from to)
+  pub over : over_in most m (w - 1) maps (variables_of (w - 1) s) (reach w left d s) d.top (part statements i to)
+      ≡ over_in most m (w - 1) maps (variables_of (w - 1) s) (reach w left₀ d₀ s) d₀.top (part statements from to)
+  pub stands : top_in m (w - 1) maps (variables_of (w - 1) s) (reach w left d s) d.top (part statements i to)
+      ≡ top_in m (w - 1) maps (variables_of (w - 1) s) (reach w left₀ d₀ s) d₀.top (part statements from to)
 
 -- the whole outcome of a walk: the line at which it was given up, or all values
 pub record Walked (m : ℕ) (maps : List AffineMap) (statements : List Statement) (from to : ℕ) (s : Scope) (d₀ : Shelf)
     (left₀ : List ℕ) (w most : ℕ)
     (left : List ℕ) (r : Walk) : Type 0 where
-  pub decided : lineIf r.over r.line
-      ≡ overIn most m (w - 1) maps (variablesOf (w - 1) s) (reach w left₀ d₀ s) d₀.top (part statements from to)
+  pub decided : line_if r.over r.line
+      ≡ over_in most m (w - 1) maps (variables_of (w - 1) s) (reach w left₀ d₀ s) d₀.top (part statements from to)
   pub finished : r.over ≡ false → Holds m maps statements from to s d₀ left₀ w most to left r.shelf

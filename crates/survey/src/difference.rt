@@ -3,9 +3,9 @@ ghost use Rattle.std.specs.Prelude.{◌++◌, ◌+◌, ◌≤◌, length};
 ghost use Rattle.field.specs.Laws.{gf};
 ghost use Rattle.poly.specs.Poly.{normal};
 ghost use Rattle.values.specs.Shelf.{Laid};
-ghost use Rattle.values.specs.Source.{source_of, sourceSize};
+ghost use Rattle.values.specs.Source.{source_of, source_size};
 ghost use Rattle.values.specs.Load.{LayAsked, LoadAsked};
-ghost use Rattle.survey.specs.Difference.{outputTerms, OutputsAsked, OutputsLaid};
+ghost use Rattle.survey.specs.Difference.{output_terms, OutputsAsked, OutputsLaid};
 ghost use Rattle.survey.specs.Difference.{OutputsSized};
 ghost use Rattle.values.specs.Raw.{SizeAsked};
 
@@ -59,12 +59,12 @@ pub fn form_difference(
     w: usize,
 ) -> usize
     requires { LoadAsked left.old a right.old 0 w
-        × OutputsAsked left.old outputs named s d right.old (sourceSize a) w
+        × OutputsAsked left.old outputs named s d right.old (source_size a) w
         × LayAsked left.old top
-        (sourceSize a + length (outputTerms w left.old d s outputs named)) w }
+        (source_size a + length (output_terms w left.old d s outputs named)) w }
     ensures { Laid w left.old left.new top result
         (normal (gf m) (source_of w left.old a
-        ++ outputTerms w left.old d s outputs named)) }
+        ++ output_terms w left.old d s outputs named)) }
 {
     load(left, a, right, 0, w);
     let i = size_of(a);

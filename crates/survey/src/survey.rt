@@ -2,7 +2,7 @@
 // the count exceeds the limit.
 ghost use Rattle.std.specs.Prelude.{◌≡◌};
 ghost use Rattle.text.specs.Routine.{Counted};
-ghost use Rattle.survey.specs.Survey.{originScope, maskedScope, Ready, Lent, BlockAsked};
+ghost use Rattle.survey.specs.Survey.{origin_scope, masked_scope, Ready, Lent, BlockAsked};
 ghost use Rattle.survey.specs.Survey.{Begun, OriginWalked, MaskedWalked, Surveyed};
 
 use crate::table::{list_constants, list_maps};
@@ -19,7 +19,7 @@ pub const MOST_TERMS: usize = 3840;
 
 // The origin block begins with the inputs, each the sum of its shares; it draws nothing.
 pub fn origin_scope(r: Routine) -> Scope
-    ensures { result ≡ originScope r }
+    ensures { result ≡ origin_scope r }
 {
     Scope {
         begins: r.inputs,
@@ -32,7 +32,7 @@ pub fn origin_scope(r: Routine) -> Scope
 // The masked block begins with the shares of all inputs, and may draw every variable.
 pub fn masked_scope(r: Routine) -> Scope
     requires { Counted r }
-    ensures { result ≡ maskedScope r }
+    ensures { result ≡ masked_scope r }
 {
     Scope {
         begins: r.inputs * r.shares,

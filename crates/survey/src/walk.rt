@@ -1,7 +1,7 @@
 // A block of statements walked from the top: each value is formed above the others, unless what
 // stands and the raw size exceed the limit.
 ghost use Rattle.std.specs.Prelude.{◌≡◌};
-ghost use Rattle.text.specs.Routine.{mapsOf};
+ghost use Rattle.text.specs.Routine.{maps_of};
 ghost use Rattle.survey.specs.Walk.{WalkAsked, Walked};
 
 use text::routine::Routine;
@@ -35,9 +35,9 @@ pub(crate) fn walk_block(
     w: usize,
     most: usize,
 ) -> Walk
-    requires { WalkAsked m lists constants (mapsOf r) r.statements from to s d
+    requires { WalkAsked m lists constants (maps_of r) r.statements from to s d
         left.old right.old w most }
-    ensures { Walked m (mapsOf r) r.statements from to s d
+    ensures { Walked m (maps_of r) r.statements from to s d
         left.old w most left.new result }
 {
     let mut shelf = d;

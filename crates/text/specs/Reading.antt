@@ -2,23 +2,23 @@
 use Rattle.std.specs.Prelude.{ℕ, ◌+◌, ◌≤◌, ◌≡◌, cond, List, eqb, take, drop}
 use Rattle.text.specs.declared.routine.Routine as code
 use Rattle.text.specs.declared.read.Reading as answer
-use Rattle.rules.specs.Limits.{mostMaps, mostInputs, mostVariables, mostStatements}
+use Rattle.rules.specs.Limits.{most_maps, most_inputs, most_variables, most_statements}
 use Rattle.rules.specs.Read.{Reading, refused, accepted, routine}
-use Rattle.rules.specs.Order.{atEnd}
-use Rattle.lines.specs.Known.{Kept, stateIn}
+use Rattle.rules.specs.Order.{at_end}
+use Rattle.lines.specs.Known.{Kept, state_in}
 use Rattle.grammar.specs.declared.line.Line.{Line}
 use Rattle.tokens.specs.Ascii.{all, allowed}
 use Rattle.text.specs.Routine.{routine_of, Counted}
-use Rattle.tokens.specs.Limits.{mostShares}
+use Rattle.tokens.specs.Limits.{most_shares}
 
 -- refusal 0 is none
 unfoldable pub reading_of : answer.Reading → Reading
 reading_of r = cond (eqb r.refusal 0) (accepted (routine_of r.routine)) (refused r.refusal r.line)
 
 -- the refusal's number of an answer, and 0 where the text is accepted
-unfoldable pub refusalOf : Reading → ℕ
-refusalOf (refused e n) = e
-refusalOf (accepted r) = 0
+unfoldable pub refusal_of : Reading → ℕ
+refusal_of (refused e n) = e
+refusal_of (accepted r) = 0
 
 -- the refusal's line of an answer, and 0 where the text is accepted
 unfoldable pub line_of : Reading → ℕ
@@ -27,11 +27,11 @@ line_of (accepted r) = 0
 
 -- the counts of a routine are within their limits
 pub record Held (r : code.Routine) : Type 0 where
-  pub mapped : r.mapped ≤ mostMaps
-  pub inputs : r.inputs ≤ mostInputs
-  pub variables : r.variables ≤ mostVariables
-  pub statements : r.origin + r.masked ≤ mostStatements
-  pub named : r.named ≤ mostShares
+  pub mapped : r.mapped ≤ most_maps
+  pub inputs : r.inputs ≤ most_inputs
+  pub variables : r.variables ≤ most_variables
+  pub statements : r.origin + r.masked ≤ most_statements
+  pub named : r.named ≤ most_shares
 
 -- the whole outcome of a reading
 pub record ReadingIs (r : answer.Reading) (x : Reading) : Type 0 where
@@ -42,7 +42,7 @@ pub record ReadingIs (r : answer.Reading) (x : Reading) : Type 0 where
 -- the reading of a text that ends behind line n
 abbrev pub EndIs : List ℕ → Kept → ℕ → answer.Reading → Type 0
 EndIs s h n r =
-    ReadingIs r (cond (eqb h.known.stage atEnd) (accepted (routine (stateIn s h) n)) (refused 6 (n + 1)))
+    ReadingIs r (cond (eqb h.known.stage at_end) (accepted (routine (state_in s h) n)) (refused 6 (n + 1)))
 
 -- the reading of a text whose last line lacks its line feed, behind n lines
 abbrev pub UnendedIs : List ℕ → Line → ℕ → answer.Reading → Type 0

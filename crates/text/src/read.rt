@@ -1,8 +1,8 @@
 // A text: the routine that it holds, or its refusal.
 ghost use Rattle.std.specs.Prelude.{◌≡◌, List, ℕ, ◌≤◌};
-ghost use Rattle.rules.specs.Limits.{mostBytes};
-ghost use Rattle.rules.specs.Read.{readText, refused};
-ghost use Rattle.text.specs.From.{readFrom, ReadsOn, Stands, LinesAre};
+ghost use Rattle.rules.specs.Limits.{most_bytes};
+ghost use Rattle.rules.specs.Read.{read_text, refused};
+ghost use Rattle.text.specs.From.{read_from, ReadsOn, Stands, LinesAre};
 ghost use Rattle.lines.specs.Known.{Sound, arrays, kept};
 ghost use Rattle.text.specs.Reading.{ReadingIs, EndIs, UnendedIs};
 
@@ -51,7 +51,7 @@ pub(crate) fn end(
     statements: [Statement; MOST_STATEMENTS],
     n: usize,
 ) -> Reading
-    requires { (Sound k) × (n ≤ mostBytes) }
+    requires { (Sound k) × (n ≤ most_bytes) }
     ensures { (s t : List ℕ) → EndIs s (kept t k (arrays maps statements)) n result }
 {
     if k.stage != AT_END {
@@ -82,7 +82,7 @@ pub(crate) fn end(
 
 // The last line lacks its line feed; n lines stand before it.
 pub(crate) fn unended(s: &[u8], l: Line, n: usize) -> Reading
-    requires { n ≤ mostBytes }
+    requires { n ≤ most_bytes }
     ensures { UnendedIs s.now l n result }
 {
     if bytes::all_allowed(split::part(s, l.from, l.len)) {
@@ -93,7 +93,7 @@ pub(crate) fn unended(s: &[u8], l: Line, n: usize) -> Reading
 
 // The reading of a text of any length: a reader is opened on it, and reads all of it.
 pub fn read(s: &[u8]) -> Reading
-    ensures { ReadingIs result (readText s.now) }
+    ensures { ReadingIs result (read_text s.now) }
 {
     read_all(open(s))
 }
@@ -107,7 +107,7 @@ pub fn read_all<'a>(r: Reader<'a>) -> Reading
 
 // The reading of the lines from a place on.
 pub fn read_from(s: &[u8], at: usize, line: usize) -> Reading
-    ensures { ReadingIs result (readFrom s.now at line) }
+    ensures { ReadingIs result (read_from s.now at line) }
 {
     if MOST_BYTES < s.len() {
         return refuse(2, 0);

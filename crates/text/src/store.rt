@@ -1,11 +1,11 @@
 // What a record gives, stored: its names in the table, its map, its statements.
 ghost use Rattle.std.specs.Prelude.{◌≡◌, ◌+◌, ◌≤◌, ◌<◌};
-ghost use Rattle.rules.specs.Limits.{mostEntries, mostStatements};
-ghost use Rattle.lines.specs.Lets.{putNameless, putLet};
-ghost use Rattle.lines.specs.Given.{givenCount, givenAt};
+ghost use Rattle.rules.specs.Limits.{most_entries, most_statements};
+ghost use Rattle.lines.specs.Lets.{put_nameless, put_let};
+ghost use Rattle.lines.specs.Given.{given_count, given_at};
 ghost use Rattle.lines.specs.Known.{Sound};
 ghost use Rattle.lines.specs.Added.{StatementsFit, Fits};
-ghost use Rattle.lines.specs.Stored.{nameSlot, tableAfter, mapsAfter};
+ghost use Rattle.lines.specs.Stored.{name_slot, table_after, maps_after};
 
 use grammar::line::NameRef;
 use lines::known::Known;
@@ -21,7 +21,7 @@ use tokens::limits::NO_PART;
 // Stores the names that a record gives; k is what was known above it.
 pub(crate) fn store_names(t: &mut Table, k: Known, p: Put)
     requires { Sound k × Fits k p }
-    ensures { t.new ≡ tableAfter t.old k p }
+    ensures { t.new ≡ table_after t.old k p }
 {
     match p {
         Put::Nothing => {}
@@ -39,7 +39,7 @@ pub(crate) fn store_names(t: &mut Table, k: Known, p: Put)
 // the others have none.
 pub(crate) fn put_values(t: &mut Table, k: Known, x: NameRef, n: usize)
     requires { Sound k × StatementsFit k n }
-    ensures { t.new ≡ putLet t.old (nameSlot k) x n }
+    ensures { t.new ≡ put_let t.old (name_slot k) x n }
 {
     let at = name_slot(k);
     let inner = n - 1;
@@ -49,8 +49,8 @@ pub(crate) fn put_values(t: &mut Table, k: Known, x: NameRef, n: usize)
 
 // Stores n entries without a name from `at` on.
 pub(crate) fn put_nameless(t: &mut Table, at: usize, n: usize)
-    requires { at + n ≤ mostEntries }
-    ensures { t.new ≡ putNameless t.old at n }
+    requires { at + n ≤ most_entries }
+    ensures { t.new ≡ put_nameless t.old at n }
 {
     let mut i = 0;
     while i < n {
@@ -67,7 +67,7 @@ pub(crate) fn put_nameless(t: &mut Table, at: usize, n: usize)
 // The entry of the next name of the block that a statement stands in.
 pub(crate) fn name_slot(k: Known) -> usize
     requires { Sound k }
-    ensures { result ≡ nameSlot k }
+    ensures { result ≡ name_slot k }
 {
     if k.stage == IN_MASKED {
         return MASKED_FROM + k.parts;
@@ -77,7 +77,7 @@ pub(crate) fn name_slot(k: Known) -> usize
 
 // How many statements a record gives.
 pub(crate) fn count_given(p: Put) -> usize
-    ensures { result ≡ givenCount p }
+    ensures { result ≡ given_count p }
 {
     match p {
         Put::Nothing => 0,
@@ -90,8 +90,8 @@ pub(crate) fn count_given(p: Put) -> usize
 
 // Statement i of those that a record gives; a formula's is read back from its numbers.
 pub(crate) fn statement_given(p: Put, codes: &Codes, i: usize) -> Statement
-    requires { i < mostStatements }
-    ensures { result ≡ givenAt codes.now p i }
+    requires { i < most_statements }
+    ensures { result ≡ given_at codes.now p i }
 {
     let none = Statement {
         op: Op::Rand(0),
@@ -112,7 +112,7 @@ pub(crate) fn maps_after(
     g: AffineMap,
 ) -> [AffineMap; MOST_MAPS]
     requires { Fits k p }
-    ensures { result ≡ mapsAfter maps k p g }
+    ensures { result ≡ maps_after maps k p g }
 {
     match p {
         Put::Map(x) => {

@@ -3,12 +3,12 @@ use Rattle.std.specs.Prelude.{ℕ, cond, List, [], ◌∷◌}
 use Rattle.tokens.specs.declared.word.Word.{Word}
 use Rattle.tokens.specs.declared.word.Word.TheVariants.{Set, Xor, Mul, App, Let, Rand, Shares, Map, Input}
 use Rattle.tokens.specs.declared.word.Word.TheVariants.{Origin, Result, Masked, Output, Unknown}
-use Rattle.tokens.specs.Ascii.{ascii, sameBytes}
+use Rattle.tokens.specs.Ascii.{ascii, same_bytes}
 
 -- what stands beside the first spelling that has the bytes of w, or `other` where none has
 unfoldable pub spelt : {A : Type 0} → A → List ℕ → List (List ℕ × A) → A
 spelt other w [] = other
-spelt other w (p ∷ ps) = let rest = spelt other w ps in cond (sameBytes w p.0) p.1 rest
+spelt other w (p ∷ ps) = let rest = spelt other w ps in cond (same_bytes w p.0) p.1 rest
 
 -- the words of records, each beside its spelling
 unfoldable pub words : List (List ℕ × Word)
@@ -18,5 +18,5 @@ words =
     ∷ (ascii "origin", Origin) ∷ (ascii "result", Result) ∷ (ascii "masked", Masked) ∷ (ascii "output", Output) ∷ []
 
 -- the word that the bytes spell
-unfoldable pub wordOf : List ℕ → Word
-wordOf w = spelt Unknown w words
+unfoldable pub word_of : List ℕ → Word
+word_of w = spelt Unknown w words

@@ -1,6 +1,6 @@
 // The word of a record.
 ghost use Rattle.std.specs.Prelude.{◌≡◌};
-ghost use Rattle.tokens.specs.Word.{wordOf};
+ghost use Rattle.tokens.specs.Word.{word_of};
 
 use crate::split;
 
@@ -26,7 +26,7 @@ pub enum Word {
 // The word of a record: the one at the number that the bytes have among the spellings. The most
 // frequent come first.
 pub fn word_of(f: &[u8]) -> Word
-    ensures { result ≡ wordOf f.now }
+    ensures { result ≡ word_of f.now }
 {
     let spelt = b"xor mul set let app rand shares map input origin result masked output";
     let words = [

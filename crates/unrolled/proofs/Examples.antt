@@ -5,17 +5,17 @@ use mathlib.Core.Path.{◌≡◌, refl}
 use Prim.Native.Nat.{ℕ}
 use mathlib.Core.List.{List, ◌++◌}
 use Rattle.tokens.specs.Ascii.{ascii}
-use Rattle.tokens.specs.Written.{digits, decimal, hexOf, writtenName, writtenTerm, numbered, joinedBy}
-use Rattle.grammar.specs.Formula.{operations, depth, operationOf, operationAt, past, closed, mapAt, operand_at}
-use Rattle.grammar.specs.Formula.{pair_at, levelFor, level, formulaAt, parsed, whole, readFormula}
+use Rattle.tokens.specs.Written.{digits, decimal, hex_of, written_name, written_term, numbered, joined_by}
+use Rattle.grammar.specs.Formula.{operations, depth, operation_of, operation_at, past, closed, map_at, operand_at}
+use Rattle.grammar.specs.Formula.{pair_at, level_for, level, formula_at, parsed, whole, read_formula}
 use Rattle.grammar.specs.Record.{nests}
-use Rattle.grammar.specs.Written.{writtenFields, writtenLine}
-use Rattle.rules.specs.Open.{text-open}
-use Rattle.rules.specs.Stated.{withOriginAll, withMaskedAll}
-use Rattle.rules.specs.Scope.{unknownFormula, letCount, value_of, compiled, letOps}
-use Rattle.unrolled.specs.Unrolled.{isUnnamed, unnamedIn, kept, numberedFrom, freeNames, letNames, termFor}
-use Rattle.unrolled.specs.Unrolled.{linesFor, letLines, led, behindLines, recordOf, namesFor, lines_of}
-use Rattle.unrolled.specs.Unrolled.{unrolledLines, unrolled}
+use Rattle.grammar.specs.Written.{written_fields, written_line}
+use Rattle.rules.specs.Open.{text_open}
+use Rattle.rules.specs.Stated.{with_origin_all, with_masked_all}
+use Rattle.rules.specs.Scope.{unknown_formula, let_count, value_of, compiled, let_ops}
+use Rattle.unrolled.specs.Unrolled.{is_unnamed, unnamed_in, kept, numbered_from, free_names, let_names, term_for}
+use Rattle.unrolled.specs.Unrolled.{lines_for, let_lines, led, behind_lines, record_of, names_for, lines_of}
+use Rattle.unrolled.specs.Unrolled.{unrolled_lines, unrolled}
 
 -- what both texts begin with
 abbrev front : List ℕ
@@ -34,10 +34,10 @@ form =
     ++ ascii "mul\tq5\tc\tq2\nmul\td\tq5\tc\nresult\td\nmasked\nmul\tq0\ta.0\ta.0\nxor\tc\ta.0\tq0\noutput\tc\n"
 
 -- the unrolled form is as stated
-pub unrolled-as-stated : unrolled text ≡ form
-unfolding text-open digits decimal hexOf writtenName writtenTerm numbered joinedBy writtenFields writtenLine operations
-    depth operationOf operationAt past closed mapAt operand_at pair_at levelFor level formulaAt parsed whole readFormula
-    nests withOriginAll withMaskedAll unknownFormula letCount value_of compiled letOps isUnnamed unnamedIn kept
-    numberedFrom freeNames letNames termFor linesFor letLines led behindLines recordOf namesFor lines_of unrolledLines
+pub unrolled_as_stated : unrolled text ≡ form
+unfolding text_open digits decimal hex_of written_name written_term numbered joined_by written_fields written_line operations
+    depth operation_of operation_at past closed map_at operand_at pair_at level_for level formula_at parsed whole read_formula
+    nests with_origin_all with_masked_all unknown_formula let_count value_of compiled let_ops is_unnamed unnamed_in kept
+    numbered_from free_names let_names term_for lines_for let_lines led behind_lines record_of names_for lines_of unrolled_lines
     unrolled
-unrolled-as-stated = refl
+unrolled_as_stated = refl

@@ -10,100 +10,100 @@ use mathlib.Core.Option.{Option, none, some}
 use lib.Dec.{ltb}
 use lib.ListN.{length}
 use borrow.Author.Tests.{le-ltb}
-use Rattle.tokens.specs.Ascii.{all, lineFeed, ascii, sameBytes}
+use Rattle.tokens.specs.Ascii.{all, line_feed, ascii, same_bytes}
 use Rattle.tokens.specs.Byte.{Each}
 use Rattle.tokens.specs.Split.{pieces}
-use Rattle.tokens.specs.Word.{spelt, words, wordOf}
-use Rattle.tokens.specs.Written.{joinedBy}
+use Rattle.tokens.specs.Word.{spelt, words, word_of}
+use Rattle.tokens.specs.Written.{joined_by}
 use Rattle.tokens.proofs.Laws.Some.{some_same}
 use Rattle.tokens.proofs.Laws.Joined.{Without, pieces-joined, joined-pieces, weight, joined_length}
-use Rattle.grammar.specs.Record.{Record, recordFor}
-use Rattle.grammar.proofs.Laws.Written.{line-no-feed}
+use Rattle.grammar.specs.Record.{Record, record_for}
+use Rattle.grammar.proofs.Laws.Written.{line_no_feed}
 use Rattle.rules.specs.declared.types.Statement.{Statement}
-use Rattle.rules.specs.Limits.{mostBytes}
-use Rattle.rules.specs.Order.{atEnd}
+use Rattle.rules.specs.Limits.{most_bytes}
+use Rattle.rules.specs.Order.{at_end}
 use Rattle.rules.specs.State.{State, start}
-use Rattle.rules.specs.Read.{Routine, refused, accepted, Outcome, stop, takeRecord, takePieces, takeLine, takeLines}
-use Rattle.rules.specs.Read.{routine, readText}
-use Rattle.unrolled.specs.Unrolled.{recordOf, lines_of, unrolledLines, led, behindLines, unrolled}
-use Rattle.unrolled.specs.Lines.{unlinedStatement, unlined}
+use Rattle.rules.specs.Read.{Routine, refused, accepted, Outcome, stop, take_record, take_pieces, take_line, take_lines}
+use Rattle.rules.specs.Read.{routine, read_text}
+use Rattle.unrolled.specs.Unrolled.{record_of, lines_of, unrolled_lines, led, behind_lines, unrolled}
+use Rattle.unrolled.specs.Lines.{unlined_statement, unlined}
 use Rattle.unrolled.proofs.Laws.Filled.{filled}
 use Rattle.unrolled.proofs.Laws.Steps.{line_taken}
 use Rattle.unrolled.proofs.Laws.Runs.{runs, runs-first, runs-behind, Ended, accepted-runs, runs-accepted}
 use Rattle.unrolled.proofs.Laws.Runs.{refused-accepted}
 use Rattle.rules.proofs.Laws.Limits.{start-bounded}
 use Rattle.unrolled.proofs.Laws.Bounded.{runs-bounded}
-use Rattle.unrolled.proofs.Laws.Load.{Plain, mostPlain, load-most, runs-load}
+use Rattle.unrolled.proofs.Laws.Load.{Plain, most_plain, load-most, runs-load}
 use Rattle.unrolled.proofs.Laws.Blocks.{ops_of, resting}
 use Rattle.unrolled.proofs.Laws.Related.{renamed, Related}
 use Rattle.rules.proofs.Laws.Letting.{each_append}
-use Rattle.unrolled.proofs.Laws.Unrolling.{line_stays, lines-unroll}
+use Rattle.unrolled.proofs.Laws.Unrolling.{line_stays, lines_unroll}
 
 -- ---- the empty piece behind the last line feed
 
 -- it makes no record
-empty-none : recordOf [] ≡ none
-unfolding recordOf pieces wordOf words spelt ascii sameBytes recordFor
-empty-none = refl
+empty_none : record_of [] ≡ none
+unfolding record_of pieces word_of words spelt ascii same_bytes record_for
+empty_none = refl
 
 -- it is not taken
-empty-stops : (s : State) (n : ℕ) → takeLine s n [] ≡ stop 5
-unfolding takeLine all takePieces takeRecord pieces wordOf words spelt ascii sameBytes recordFor
-empty-stops s n = refl
+empty_stops : (s : State) (n : ℕ) → take_line s n [] ≡ stop 5
+unfolding take_line all take_pieces take_record pieces word_of words spelt ascii same_bytes record_for
+empty_stops s n = refl
 
 -- lines that are all taken, and what stands behind them
-unrolled-append : (last : State) (ls ks : List (List ℕ)) (s f : State) (n : ℕ) → runs s n ls ≡ some f
-    → unrolledLines last s n (ls ++ ks) ≡ unrolledLines last s n ls ++ unrolledLines last f (n + length ls) ks
-unfolding unrolledLines runs led
-unrolled-append last [] ks s f n e =
+unrolled_append : (last : State) (ls ks : List (List ℕ)) (s f : State) (n : ℕ) → runs s n ls ≡ some f
+    → unrolled_lines last s n (ls ++ ks) ≡ unrolled_lines last s n ls ++ unrolled_lines last f (n + length ls) ks
+unfolding unrolled_lines runs led
+unrolled_append last [] ks s f n e =
     let z : n ≡ n + 0 = omega arith in
-    ap₂ {C = List (List ℕ)} (λ (x : State) (m : ℕ). unrolledLines last x m ks) (some_same e) z
-unrolled-append last (l ∷ ls) ks s f n e =
+    ap₂ {C = List (List ℕ)} (λ (x : State) (m : ℕ). unrolled_lines last x m ks) (some_same e) z
+unrolled_append last (l ∷ ls) ks s f n e =
     let a = runs-first s f n l ls e in
     let z : n + 1 + length ls ≡ n + suc (length ls) = omega arith in
-    let here = lines_of last s l (recordOf l) in
-    ap (λ (o : Outcome). here ++ unrolledLines last (led s o) (n + 1) (ls ++ ks)) a.1
-    ∙ ap (λ (x : List (List ℕ)). here ++ x) (unrolled-append last ls ks a.0 f (n + 1) a.2
-    ∙ ap (λ (m : ℕ). unrolledLines last a.0 (n + 1) ls ++ unrolledLines last f m ks) z)
-    ∙ sym (append_assoc here (unrolledLines last a.0 (n + 1) ls) (unrolledLines last f (n + suc (length ls)) ks))
-    ∙ ap (λ (o : Outcome). (here ++ unrolledLines last (led s o) (n + 1) ls)
-    ++ unrolledLines last f (n + suc (length ls)) ks) (sym a.1)
+    let here = lines_of last s l (record_of l) in
+    ap (λ (o : Outcome). here ++ unrolled_lines last (led s o) (n + 1) (ls ++ ks)) a.1
+    ∙ ap (λ (x : List (List ℕ)). here ++ x) (unrolled_append last ls ks a.0 f (n + 1) a.2
+    ∙ ap (λ (m : ℕ). unrolled_lines last a.0 (n + 1) ls ++ unrolled_lines last f m ks) z)
+    ∙ sym (append_assoc here (unrolled_lines last a.0 (n + 1) ls) (unrolled_lines last f (n + suc (length ls)) ks))
+    ∙ ap (λ (o : Outcome). (here ++ unrolled_lines last (led s o) (n + 1) ls)
+    ++ unrolled_lines last f (n + suc (length ls)) ks) (sym a.1)
 
-empty-stays : (last s : State) (n : ℕ) → unrolledLines last s n ([] ∷ []) ≡ [] ∷ []
-unfolding unrolledLines lines_of
-empty-stays last s n = ap (λ (o : Option Record). lines_of last s [] o ++ []) empty-none
+empty_stays : (last s : State) (n : ℕ) → unrolled_lines last s n ([] ∷ []) ≡ [] ∷ []
+unfolding unrolled_lines lines_of
+empty_stays last s n = ap (λ (o : Option Record). lines_of last s [] o ++ []) empty_none
 
-empty-behind : (s : State) (n : ℕ) → behindLines s n ([] ∷ []) ≡ s
-unfolding behindLines led
-empty-behind s n = ap (led s) (empty-stops s (n + 1))
+empty_behind : (s : State) (n : ℕ) → behind_lines s n ([] ∷ []) ≡ s
+unfolding behind_lines led
+empty_behind s n = ap (led s) (empty_stops s (n + 1))
 
 -- the unrolled form of an accepted text, by its lines
-unrolled-lines : (s : List ℕ) (ls : List (List ℕ)) (f : State) → pieces lineFeed s ≡ ls ++ [] ∷ []
-    → runs start 0 ls ≡ some f → unrolled s ≡ joinedBy lineFeed (unrolledLines f start 0 ls ++ [] ∷ [])
+unrolled_lines_lem : (s : List ℕ) (ls : List (List ℕ)) (f : State) → pieces line_feed s ≡ ls ++ [] ∷ []
+    → runs start 0 ls ≡ some f → unrolled s ≡ joined_by line_feed (unrolled_lines f start 0 ls ++ [] ∷ [])
 unfolding unrolled
-unrolled-lines s ls f p e =
-    ap (λ (ps : List (List ℕ)). joinedBy lineFeed (unrolledLines (behindLines start 0 ps) start 0 ps)) p
-    ∙ ap (λ (t : State). joinedBy lineFeed (unrolledLines t start 0 (ls ++ [] ∷ [])))
-    (runs-behind ls ([] ∷ []) start f 0 e ∙ empty-behind f (0 + length ls))
-    ∙ ap (joinedBy lineFeed) (unrolled-append f ls ([] ∷ []) start f 0 e
-    ∙ ap (λ (x : List (List ℕ)). unrolledLines f start 0 ls ++ x) (empty-stays f f (0 + length ls)))
+unrolled_lines_lem s ls f p e =
+    ap (λ (ps : List (List ℕ)). joined_by line_feed (unrolled_lines (behind_lines start 0 ps) start 0 ps)) p
+    ∙ ap (λ (t : State). joined_by line_feed (unrolled_lines t start 0 (ls ++ [] ∷ [])))
+    (runs-behind ls ([] ∷ []) start f 0 e ∙ empty_behind f (0 + length ls))
+    ∙ ap (joined_by line_feed) (unrolled_append f ls ([] ∷ []) start f 0 e
+    ∙ ap (λ (x : List (List ℕ)). unrolled_lines f start 0 ls ++ x) (empty_stays f f (0 + length ls)))
 
 -- ---- its bytes
 
 -- lines that are all taken hold no line feed
-runs-feeds : (ls : List (List ℕ)) (s f : State) (n : ℕ) → runs s n ls ≡ some f → Each (Without lineFeed) (ls ++ [] ∷ [])
+runs_feeds : (ls : List (List ℕ)) (s f : State) (n : ℕ) → runs s n ls ≡ some f → Each (Without line_feed) (ls ++ [] ∷ [])
 unfolding runs all
-runs-feeds [] s f n e = (refl, tt)
-runs-feeds (l ∷ ls) s f n e =
+runs_feeds [] s f n e = (refl, tt)
+runs_feeds (l ∷ ls) s f n e =
     let a = runs-first s f n l ls e in
     let T = line_taken s (n + 1) l a.0 a.1 in
-    (line-no-feed l T.bytes, runs-feeds ls a.0 f (n + 1) a.2)
+    (line_no_feed l T.bytes, runs_feeds ls a.0 f (n + 1) a.2)
 
 -- they are cut where they were joined
-feeds-cut : (ls : List (List ℕ)) → Each (Without lineFeed) (ls ++ [] ∷ [])
-    → pieces lineFeed (joinedBy lineFeed (ls ++ [] ∷ [])) ≡ ls ++ [] ∷ []
-feeds-cut [] h = pieces-joined lineFeed [] [] h
-feeds-cut (l ∷ ls) h = pieces-joined lineFeed l (ls ++ [] ∷ []) h
+feeds_cut : (ls : List (List ℕ)) → Each (Without line_feed) (ls ++ [] ∷ [])
+    → pieces line_feed (joined_by line_feed (ls ++ [] ∷ [])) ≡ ls ++ [] ∷ []
+feeds_cut [] h = pieces-joined line_feed [] [] h
+feeds_cut (l ∷ ls) h = pieces-joined line_feed l (ls ++ [] ∷ []) h
 
 weight-last : (ls : List (List ℕ)) → weight (ls ++ [] ∷ []) ≡ weight ls + 1
 unfolding weight
@@ -111,24 +111,24 @@ weight-last [] = refl
 weight-last (l ∷ ls) = let e = weight-last ls in omega arith
 
 -- as many bytes as they weigh
-feeds-length : (ls : List (List ℕ)) → length (joinedBy lineFeed (ls ++ [] ∷ [])) ≡ weight ls
-feeds-length ls = omega (arith, join ls, weight-last ls)
+feeds_length : (ls : List (List ℕ)) → length (joined_by line_feed (ls ++ [] ∷ [])) ≡ weight ls
+feeds_length ls = omega (arith, join ls, weight-last ls)
   where
-    join : (ls : List (List ℕ)) → length (joinedBy lineFeed (ls ++ [] ∷ [])) + 1 ≡ weight (ls ++ [] ∷ [])
-    join [] = joined_length lineFeed [] []
-    join (l ∷ ls) = joined_length lineFeed l (ls ++ [] ∷ [])
+    join : (ls : List (List ℕ)) → length (joined_by line_feed (ls ++ [] ∷ [])) + 1 ≡ weight (ls ++ [] ∷ [])
+    join [] = joined_length line_feed [] []
+    join (l ∷ ls) = joined_length line_feed l (ls ++ [] ∷ [])
 
 -- ---- the routine
 
 -- statements that compute the same are the same apart from their lines
 ops-unlined : (ss : List Statement)
-    → map_list unlinedStatement ss ≡ map_list (λ o. record { op = o; line = 0 }) (ops_of ss)
-unfolding unlinedStatement
+    → map_list unlined_statement ss ≡ map_list (λ o. record { op = o; line = 0 }) (ops_of ss)
+unfolding unlined_statement
 ops-unlined [] = refl
 ops-unlined (s ∷ ss) = ap (λ (l : List Statement). record { op = s.op; line = 0 } ∷ l) (ops-unlined ss)
 
 same-unlined : (xs ys : List Statement) → ops_of xs ≡ ops_of ys
-    → map_list unlinedStatement xs ≡ map_list unlinedStatement ys
+    → map_list unlined_statement xs ≡ map_list unlined_statement ys
 same-unlined xs ys e =
     ops-unlined xs ∙ ap (map_list {B = Statement} (λ o. record { op = o; line = 0 })) e ∙ sym (ops-unlined ys)
 
@@ -146,7 +146,7 @@ related-unlined last t q n m R =
       result = t.result;
       masked = same-unlined R.ms t.masked.statements R.masked i;
       outputs = t.outputs;
-      outputLine = 0;
+      output_line = 0;
     })
 
 -- nothing is renamed at the start
@@ -160,61 +160,61 @@ start-renamed last = refl
 -- none of its lines is a `let`, and it is shorter than a text may be.
 pub record Unrolled (s : List ℕ) (r : Routine) : Type 0 where
   pub held : Routine
-  pub accepts : readText (unrolled s) ≡ accepted held
+  pub accepts : read_text (unrolled s) ≡ accepted held
   pub same : unlined held ≡ unlined r
-  pub plain : Each (λ l. Plain (recordOf l)) (pieces lineFeed (unrolled s))
-  pub short : length (unrolled s) ≤ mostPlain
+  pub plain : Each (λ l. Plain (record_of l)) (pieces line_feed (unrolled s))
+  pub short : length (unrolled s) ≤ most_plain
 
-lines-unrolled : (s : List ℕ) (r : Routine) → Ended start 0 (pieces lineFeed s) r → Unrolled s r
-unfolding readText renamed resting start
+lines-unrolled : (s : List ℕ) (r : Routine) → Ended start 0 (pieces line_feed s) r → Unrolled s r
+unfolding read_text renamed resting start
 lines-unrolled s r E =
     let ls = E.lines in
     let f = E.last in
     let D = runs-bounded ls start f 0 start-bounded E.taken in
-    let U = lines-unroll ls f start [] [] refl refl start-bounded D 0 0 E.taken in
-    let us = unrolledLines f start 0 ls in
+    let U = lines_unroll ls f start [] [] refl refl start-bounded D 0 0 E.taken in
+    let us = unrolled_lines f start 0 ls in
     let t = U.led in
     let run : runs start 0 us ≡ some t = ap (λ (x : State). runs x 0 us) (sym (start-renamed f)) ∙ U.taken in
-    let whole = unrolled-lines s ls f E.parts E.taken in
-    let ends : t.stage ≡ atEnd = ap (λ (x : State). x.stage) U.related.is ∙ E.ends in
-    let few : weight us ≤ mostPlain =
+    let whole = unrolled_lines_lem s ls f E.parts E.taken in
+    let ends : t.stage ≡ at_end = ap (λ (x : State). x.stage) U.related.is ∙ E.ends in
+    let few : weight us ≤ most_plain =
     omega (arith, runs-load us start t 0 U.plain run, load-most t (runs-bounded us start t 0 start-bounded run)) in
-    let cut = feeds-cut us (runs-feeds us start t 0 run) in
+    let cut = feeds_cut us (runs_feeds us start t 0 run) in
     record {
       held = routine t (0 + length us);
-      accepts = ap readText whole
+      accepts = ap read_text whole
           ∙ ap (λ (b : Bool). cond b (refused 2 0)
-          (takeLines start 0 (pieces lineFeed (joinedBy lineFeed (us ++ [] ∷ [])))))
-          (le-ltb mostBytes (length (joinedBy lineFeed (us ++ [] ∷ []))) (omega (arith, few, feeds-length us)))
-          ∙ ap (takeLines start 0) cut ∙ runs-accepted us start t 0 run ends;
+          (take_lines start 0 (pieces line_feed (joined_by line_feed (us ++ [] ∷ [])))))
+          (le-ltb most_bytes (length (joined_by line_feed (us ++ [] ∷ []))) (omega (arith, few, feeds_length us)))
+          ∙ ap (take_lines start 0) cut ∙ runs-accepted us start t 0 run ends;
       same = related-unlined f f t (0 + length ls) (0 + length us) U.related ∙ ap unlined (sym E.holds);
-      plain = subst (Each (λ l. Plain (recordOf l))) (sym (ap (pieces lineFeed) whole ∙ cut))
-          (each_append (λ l. Plain (recordOf l)) us ([] ∷ []) U.plain (subst Plain (sym empty-none) tt, tt));
-      short = omega (arith, few, feeds-length us, ap length whole);
+      plain = subst (Each (λ l. Plain (record_of l))) (sym (ap (pieces line_feed) whole ∙ cut))
+          (each_append (λ l. Plain (record_of l)) us ([] ∷ []) U.plain (subst Plain (sym empty_none) tt, tt));
+      short = omega (arith, few, feeds_length us, ap length whole);
     }
 
 -- THEOREM
-pub text-unrolled : (s : List ℕ) (r : Routine) → readText s ≡ accepted r → Unrolled s r
-unfolding readText
-text-unrolled s r e = go (ltb mostBytes (length s)) e
+pub text-unrolled : (s : List ℕ) (r : Routine) → read_text s ≡ accepted r → Unrolled s r
+unfolding read_text
+text-unrolled s r e = go (ltb most_bytes (length s)) e
   where
-    go : (b : Bool) → cond b (refused 2 0) (takeLines start 0 (pieces lineFeed s)) ≡ accepted r → Unrolled s r
+    go : (b : Bool) → cond b (refused 2 0) (take_lines start 0 (pieces line_feed s)) ≡ accepted r → Unrolled s r
     go true h = refused-accepted h
-    go false h = lines-unrolled s r (accepted-runs start 0 (pieces lineFeed s) r h)
+    go false h = lines-unrolled s r (accepted-runs start 0 (pieces line_feed s) r h)
 
 -- ---- texts without `let`
 
-lines_stay : (last : State) (ls : List (List ℕ)) (s : State) (n : ℕ) → Each (λ l. Plain (recordOf l)) ls
-    → unrolledLines last s n ls ≡ ls
-unfolding unrolledLines
+lines_stay : (last : State) (ls : List (List ℕ)) (s : State) (n : ℕ) → Each (λ l. Plain (record_of l)) ls
+    → unrolled_lines last s n ls ≡ ls
+unfolding unrolled_lines
 lines_stay last [] s n h = refl
 lines_stay last (l ∷ ls) s n h =
-    ap₂ {C = List (List ℕ)} ◌++◌ (line_stays last s l (recordOf l) h.0)
-    (lines_stay last ls (led s (takeLine s (n + 1) l)) (n + 1) h.1)
+    ap₂ {C = List (List ℕ)} ◌++◌ (line_stays last s l (record_of l) h.0)
+    (lines_stay last ls (led s (take_line s (n + 1) l)) (n + 1) h.1)
 
 -- THEOREM: a text without `let` is its own unrolled form
-pub text-stays : (s : List ℕ) → Each (λ l. Plain (recordOf l)) (pieces lineFeed s) → unrolled s ≡ s
+pub text-stays : (s : List ℕ) → Each (λ l. Plain (record_of l)) (pieces line_feed s) → unrolled s ≡ s
 unfolding unrolled
 text-stays s h =
-    ap (joinedBy lineFeed) (lines_stay (behindLines start 0 (pieces lineFeed s)) (pieces lineFeed s) start 0 h)
-    ∙ joined-pieces lineFeed s
+    ap (joined_by line_feed) (lines_stay (behind_lines start 0 (pieces line_feed s)) (pieces line_feed s) start 0 h)
+    ∙ joined-pieces line_feed s

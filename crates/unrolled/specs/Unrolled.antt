@@ -3,33 +3,33 @@
 -- Assumes nothing.
 use Rattle.std.specs.Prelude.{ℕ, zero, suc, ◌+◌, ◌-◌, Bool, cond, List, [], ◌∷◌, ◌++◌, eqb, length, take, drop, get_or}
 use Rattle.std.proofs.Math.Option.{Option, none, some}
-use Rattle.tokens.specs.Ascii.{tab, lineFeed}
+use Rattle.tokens.specs.Ascii.{tab, line_feed}
 use Rattle.tokens.specs.Split.{pieces}
-use Rattle.tokens.specs.Word.{wordOf}
+use Rattle.tokens.specs.Word.{word_of}
 use Rattle.tokens.specs.Token.{Name, Term, name}
-use Rattle.tokens.specs.Written.{numbered, joinedBy}
+use Rattle.tokens.specs.Written.{numbered, joined_by}
 use Rattle.grammar.specs.Formula.{Formula, operand, operations}
 use Rattle.grammar.specs.Formula as formula
 use Rattle.grammar.specs.Record.{set, xor, mul, app, Record, shares, map, input, origin, assign, letting, result}
-use Rattle.grammar.specs.Record.{masked, output, field, recordFor}
-use Rattle.grammar.specs.Written.{writtenLine}
+use Rattle.grammar.specs.Record.{masked, output, field, record_for}
+use Rattle.grammar.specs.Written.{written_line}
 use Rattle.rules.specs.State.{State, start}
-use Rattle.rules.specs.Grown.{atStage}
+use Rattle.rules.specs.Grown.{at_stage}
 use Rattle.rules.specs.Stated.{unnamed}
-use Rattle.rules.specs.Scope.{missing, letCount}
+use Rattle.rules.specs.Scope.{missing, let_count}
 use Rattle.rules.specs.Faults.{block}
-use Rattle.rules.specs.Read.{Outcome, stop, next, takeLine}
+use Rattle.rules.specs.Read.{Outcome, stop, next, take_line}
 
 -- ---- names for inner values
 
 -- a value that has no name
-unfoldable pub isUnnamed : Name → Bool
-isUnnamed n = eqb (length n.base) 0
+unfoldable pub is_unnamed : Name → Bool
+is_unnamed n = eqb (length n.base) 0
 
 -- how many values of a set have no name
-unfoldable pub unnamedIn : List Name → ℕ
-unnamedIn [] = 0
-unnamedIn (n ∷ ns) = cond (isUnnamed n) 1 0 + unnamedIn ns
+unfoldable pub unnamed_in : List Name → ℕ
+unnamed_in [] = 0
+unnamed_in (n ∷ ns) = cond (is_unnamed n) 1 0 + unnamed_in ns
 
 -- the elements that pass the test
 unfoldable pub kept : {A : Type 0} → (A → Bool) → List A → List A
@@ -37,48 +37,48 @@ kept p [] = []
 kept p (x ∷ xs) = cond (p x) (x ∷ kept p xs) (kept p xs)
 
 -- the names of q and c numbers from i on
-unfoldable pub numberedFrom : ℕ → ℕ → List Name
-numberedFrom i zero = []
-numberedFrom i (suc c) = numbered i ∷ numberedFrom (suc i) c
+unfoldable pub numbered_from : ℕ → ℕ → List Name
+numbered_from i zero = []
+numbered_from i (suc c) = numbered i ∷ numbered_from (suc i) c
 
 -- q0, q1, .. without those that the set holds: as many are tried as it has values, so that there is one for each value
 -- without a name
-unfoldable pub freeNames : List Name → List Name
-freeNames ms = kept (missing ms) (numberedFrom 0 (length ms))
+unfoldable pub free_names : List Name → List Name
+free_names ms = kept (missing ms) (numbered_from 0 (length ms))
 
 -- the names that the c statements of a `let` give: free names from the k-th on, and n for the last
-unfoldable pub letNames : List Name → ℕ → ℕ → Name → List Name
-letNames free k c n = take (c - 1) (drop k free) ++ n ∷ []
+unfoldable pub let_names : List Name → ℕ → ℕ → Name → List Name
+let_names free k c n = take (c - 1) (drop k free) ++ n ∷ []
 
 -- ---- the lines of a formula
 
 -- the operand that a formula's value is, the first of its operations giving the name at place `at` of ns
-unfoldable pub termFor : List Name → ℕ → Formula → Term
-termFor ns at (operand a) = a
-termFor ns at (formula.xor a b) = name (get_or ns (at + (operations a + operations b)) unnamed)
-termFor ns at (formula.mul a b) = name (get_or ns (at + (operations a + operations b)) unnamed)
-termFor ns at (formula.app f a) = name (get_or ns (at + operations a) unnamed)
+unfoldable pub term_for : List Name → ℕ → Formula → Term
+term_for ns at (operand a) = a
+term_for ns at (formula.xor a b) = name (get_or ns (at + (operations a + operations b)) unnamed)
+term_for ns at (formula.mul a b) = name (get_or ns (at + (operations a + operations b)) unnamed)
+term_for ns at (formula.app f a) = name (get_or ns (at + operations a) unnamed)
 
 -- the lines of its operations, left part first, inner before outer
-unfoldable pub linesFor : List Name → ℕ → Formula → List (List ℕ)
-linesFor ns at (operand a) = []
-linesFor ns at (formula.xor a b) =
-    linesFor ns at a ++ linesFor ns (at + operations a) b
-    ++ writtenLine (get_or ns (at + (operations a + operations b)) unnamed)
-    (xor (termFor ns at a) (termFor ns (at + operations a) b)) ∷ []
-linesFor ns at (formula.mul a b) =
-    linesFor ns at a ++ linesFor ns (at + operations a) b
-    ++ writtenLine (get_or ns (at + (operations a + operations b)) unnamed)
-    (mul (termFor ns at a) (termFor ns (at + operations a) b)) ∷ []
-linesFor ns at (formula.app f a) =
-    linesFor ns at a ++ writtenLine (get_or ns (at + operations a) unnamed) (app f (termFor ns at a)) ∷ []
+unfoldable pub lines_for : List Name → ℕ → Formula → List (List ℕ)
+lines_for ns at (operand a) = []
+lines_for ns at (formula.xor a b) =
+    lines_for ns at a ++ lines_for ns (at + operations a) b
+    ++ written_line (get_or ns (at + (operations a + operations b)) unnamed)
+    (xor (term_for ns at a) (term_for ns (at + operations a) b)) ∷ []
+lines_for ns at (formula.mul a b) =
+    lines_for ns at a ++ lines_for ns (at + operations a) b
+    ++ written_line (get_or ns (at + (operations a + operations b)) unnamed)
+    (mul (term_for ns at a) (term_for ns (at + operations a) b)) ∷ []
+lines_for ns at (formula.app f a) =
+    lines_for ns at a ++ written_line (get_or ns (at + operations a) unnamed) (app f (term_for ns at a)) ∷ []
 
 -- the lines of a `let` whose statements give the names ns: an operand alone is a `set`
-unfoldable pub letLines : List Name → Formula → List (List ℕ)
-letLines ns (operand a) = writtenLine (get_or ns 0 unnamed) (set a) ∷ []
-letLines ns (formula.xor a b) = linesFor ns 0 (formula.xor a b)
-letLines ns (formula.mul a b) = linesFor ns 0 (formula.mul a b)
-letLines ns (formula.app f a) = linesFor ns 0 (formula.app f a)
+unfoldable pub let_lines : List Name → Formula → List (List ℕ)
+let_lines ns (operand a) = written_line (get_or ns 0 unnamed) (set a) ∷ []
+let_lines ns (formula.xor a b) = lines_for ns 0 (formula.xor a b)
+let_lines ns (formula.mul a b) = lines_for ns 0 (formula.mul a b)
+let_lines ns (formula.app f a) = lines_for ns 0 (formula.app f a)
 
 -- ---- texts
 
@@ -88,18 +88,18 @@ led s (stop e) = s
 led s (next t) = t
 
 -- what is known behind the lines that follow line n
-unfoldable pub behindLines : State → ℕ → List (List ℕ) → State
-behindLines s n [] = s
-behindLines s n (l ∷ ls) = behindLines (led s (takeLine s (n + 1) l)) (n + 1) ls
+unfoldable pub behind_lines : State → ℕ → List (List ℕ) → State
+behind_lines s n [] = s
+behind_lines s n (l ∷ ls) = behind_lines (led s (take_line s (n + 1) l)) (n + 1) ls
 
 -- the record that a line makes, if it makes one
-unfoldable pub recordOf : List ℕ → Option Record
-recordOf l = let ps = pieces tab l in recordFor (wordOf (field 0 ps)) ps
+unfoldable pub record_of : List ℕ → Option Record
+record_of l = let ps = pieces tab l in record_for (word_of (field 0 ps)) ps
 
 -- the names that the statements of a `let` give, behind what is known in s; t is what is known behind the text
-unfoldable pub namesFor : State → State → Name → Formula → List Name
-namesFor t s n f =
-    letNames (freeNames (block (atStage s.stage t)).names) (unnamedIn (block s).names) (letCount f) n
+unfoldable pub names_for : State → State → Name → Formula → List Name
+names_for t s n f =
+    let_names (free_names (block (at_stage s.stage t)).names) (unnamed_in (block s).names) (let_count f) n
 
 -- the lines of a line that makes a record or none
 unfoldable pub lines_of : State → State → List ℕ → Option Record → List (List ℕ)
@@ -109,19 +109,19 @@ lines_of t s l (some (map n c columns)) = l ∷ []
 lines_of t s l (some (input n)) = l ∷ []
 lines_of t s l (some origin) = l ∷ []
 lines_of t s l (some (assign n f)) = l ∷ []
-lines_of t s l (some (letting n f)) = letLines (namesFor t s n f) f
+lines_of t s l (some (letting n f)) = let_lines (names_for t s n f) f
 lines_of t s l (some (result n)) = l ∷ []
 lines_of t s l (some masked) = l ∷ []
 lines_of t s l (some (output ns)) = l ∷ []
 
 -- the lines of the lines that follow line n, behind what is known in s
-unfoldable pub unrolledLines : State → State → ℕ → List (List ℕ) → List (List ℕ)
-unrolledLines t s n [] = []
-unrolledLines t s n (l ∷ ls) =
-    lines_of t s l (recordOf l) ++ unrolledLines t (led s (takeLine s (n + 1) l)) (n + 1) ls
+unfoldable pub unrolled_lines : State → State → ℕ → List (List ℕ) → List (List ℕ)
+unrolled_lines t s n [] = []
+unrolled_lines t s n (l ∷ ls) =
+    lines_of t s l (record_of l) ++ unrolled_lines t (led s (take_line s (n + 1) l)) (n + 1) ls
 
 -- the unrolled form of a text
 unfoldable pub unrolled : List ℕ → List ℕ
 unrolled s =
-    let ls = pieces lineFeed s in
-    joinedBy lineFeed (unrolledLines (behindLines start 0 ls) start 0 ls)
+    let ls = pieces line_feed s in
+    joined_by line_feed (unrolled_lines (behind_lines start 0 ls) start 0 ls)

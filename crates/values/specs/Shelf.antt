@@ -3,17 +3,17 @@
 use Rattle.std.specs.Prelude.{◌≡◌, ℕ, ◌+◌, ◌*◌, ◌-◌, ◌≤◌, ◌<◌, List, length, take, get_or, set, replicate}
 use Rattle.poly.specs.Poly.{Poly}
 use Rattle.poly.specs.First.{sum}
-use Rattle.buffer.specs.Buffer.{readTerms}
+use Rattle.buffer.specs.Buffer.{read_terms}
 use Rattle.verdict.specs.Lists.{tabulate}
 use Rattle.values.specs.declared.shelf.Shelf.{Shelf}
 
 -- the k terms from term `at` on
-abbrev pub termsAt : ℕ → List ℕ → ℕ → ℕ → Poly
-termsAt w b at k = readTerms (w - 1) b (at * w) k
+abbrev pub terms_at : ℕ → List ℕ → ℕ → ℕ → Poly
+terms_at w b at k = read_terms (w - 1) b (at * w) k
 
 -- the value of statement i
 unfoldable pub value_of : ℕ → List ℕ → Shelf → ℕ → Poly
-value_of w b d i = termsAt w b (get_or d.starts i 0) (get_or d.sizes i 0)
+value_of w b d i = terms_at w b (get_or d.starts i 0) (get_or d.sizes i 0)
 
 -- the values of all statements so far
 unfoldable pub stored : ℕ → List ℕ → Shelf → List Poly
@@ -44,4 +44,4 @@ pub record Sound (d : Shelf) : Type 0 where
 pub record Laid (w : ℕ) (b b' : List ℕ) (at k : ℕ) (p : Poly) : Type 0 where
   pub size : length b' ≡ length b
   pub low : (i : ℕ) → i < at * w → get_or b' i 0 ≡ get_or b i 0
-  pub terms : termsAt w b' at k ≡ p
+  pub terms : terms_at w b' at k ≡ p

@@ -2,9 +2,9 @@
 -- Assumes nothing.
 use Rattle.std.specs.Prelude.{◌≡◌, ℕ, ◌+◌, ◌*◌, ◌-◌, ◌≤◌, ◌<◌, List, ◌++◌, drop}
 use Rattle.poly.specs.Poly.{Poly, constant, variable, units}
-use Rattle.poly.specs.Size.{oneIf}
+use Rattle.poly.specs.Size.{one_if}
 use Rattle.rules.specs.declared.types.Operand.{Operand}
-use Rattle.rules.specs.Limits.{mostVariables}
+use Rattle.rules.specs.Limits.{most_variables}
 use Rattle.verdict.specs.Lists.{tabulate}
 use Rattle.verdict.specs.Meaning.{operand}
 use Rattle.verdict.specs.Instances.{polynomials}
@@ -12,19 +12,19 @@ use Rattle.values.specs.declared.shelf.Shelf.{Shelf}
 use Rattle.values.specs.declared.source.Source.{Source}
 use Rattle.values.specs.declared.source.Source.TheVariants.{Constant, Variables, Stored}
 use Rattle.values.specs.declared.source.Scope.{Scope}
-use Rattle.values.specs.Shelf.{termsAt, stored, Sound}
+use Rattle.values.specs.Shelf.{terms_at, stored, Sound}
 
 -- the polynomial that is found there
 unfoldable pub source_of : ℕ → List ℕ → Source → Poly
 source_of w b (Constant c) = constant (w - 1) c
 source_of w b (Variables i k) = units (w - 1) i k
-source_of w b (Stored at k) = termsAt w b at k
+source_of w b (Stored at k) = terms_at w b at k
 
 -- how many terms it has
-unfoldable pub sourceSize : Source → ℕ
-sourceSize (Constant c) = oneIf c
-sourceSize (Variables i k) = k
-sourceSize (Stored at k) = k
+unfoldable pub source_size : Source → ℕ
+source_size (Constant c) = one_if c
+source_size (Variables i k) = k
+source_size (Stored at k) = k
 
 -- the variables are those of a term, and the value stands below top
 abbrev pub Fits : ℕ → ℕ → Source → Type 0
@@ -37,8 +37,8 @@ unfoldable pub beginning : ℕ → Scope → List Poly
 beginning n s = tabulate s.begins (λ i. units n (i * s.width) s.width)
 
 -- the variables that may be drawn
-unfoldable pub variablesOf : ℕ → Scope → List Poly
-variablesOf n s = tabulate s.drawn (variable n)
+unfoldable pub variables_of : ℕ → Scope → List Poly
+variables_of n s = tabulate s.drawn (variable n)
 
 -- all values that a statement may read, among the values vs of all statements so far
 unfoldable pub visible : ℕ → Scope → List Poly → List Poly
@@ -52,7 +52,7 @@ reach w b d s = visible (w - 1) s (stored w b d)
 pub record Narrow (s : Scope) (d : Shelf) : Type 0 where
   pub sound : Sound d
   pub base : s.base ≤ d.count
-  pub few : s.begins * s.width ≤ mostVariables
+  pub few : s.begins * s.width ≤ most_variables
 
 -- the source is that of the operand, in every buffer with this directory
 pub record Located (s : Scope) (d : Shelf) (a : Operand) (r : Source) : Type 0 where

@@ -3,14 +3,14 @@
 use Rattle.std.specs.Prelude.{ℕ, ◌+◌, ◌*◌, ◌≤◌, ◌<◌, List, length}
 use Rattle.field.specs.Field.{Modulus}
 use Rattle.values.specs.declared.found.Found.{Found}
-use Rattle.values.specs.Load.{mostTermBytes}
-use Rattle.values.specs.Found.{foundSize, AllFit}
+use Rattle.values.specs.Load.{most_term_bytes}
+use Rattle.values.specs.Found.{found_size, AllFit}
 
 -- what a walk asks of its buffers, whatever the statement
 pub record Workable (m : ℕ) (left right : List ℕ) (w : ℕ) : Type 0 where
   pub modulus : Modulus m
   pub some : 0 < w
-  pub most : w ≤ mostTermBytes
+  pub most : w ≤ most_term_bytes
   pub spare : 64 * w ≤ length right
   pub same : length left ≤ length right
 
@@ -19,4 +19,4 @@ pub record FormAsked (m : ℕ) (lists : List (List ℕ)) (constants : List ℕ) 
     (left : List ℕ) (top : ℕ) (right : List ℕ) (w : ℕ) : Type 0 where
   pub work : Workable m left right w
   pub fits : AllFit w top found
-  pub room : (top + foundSize lists constants found) * w ≤ length left
+  pub room : (top + found_size lists constants found) * w ≤ length left

@@ -3,10 +3,10 @@
 ghost use Rattle.std.specs.Prelude.{[], ◌+◌, ◌*◌, ◌-◌, ◌<◌, get_or};
 ghost use Rattle.field.specs.Field.{Modulus};
 ghost use Rattle.field.specs.Laws.{gf};
-ghost use Rattle.poly.specs.Poly.{addPoly, mulPoly, mapPoly};
-ghost use Rattle.poly.specs.Size.{oneIf, nonzeros};
+ghost use Rattle.poly.specs.Poly.{add_poly, mul_poly, map_poly};
+ghost use Rattle.poly.specs.Size.{one_if, nonzeros};
 ghost use Rattle.values.specs.Shelf.{Laid};
-ghost use Rattle.values.specs.Source.{source_of, sourceSize};
+ghost use Rattle.values.specs.Source.{source_of, source_size};
 ghost use Rattle.values.specs.Load.{LayAsked, LoadAsked};
 ghost use Rattle.values.specs.Form.{PairAsked, Paired};
 
@@ -28,7 +28,7 @@ pub(crate) fn load_pair(left: &[u8], a: Source, b: Source, right: &mut [u8], w: 
 // A copy of an operand.
 pub(crate) fn form_copy(left: &mut [u8], top: usize, a: Source, right: &mut [u8], w: usize) -> usize
     requires { LoadAsked left.old a right.old 0 w
-        × LayAsked left.old top (sourceSize a) w }
+        × LayAsked left.old top (source_size a) w }
     ensures { Laid w left.old left.new top result
         (source_of w left.old a) }
 {
@@ -49,8 +49,8 @@ pub(crate) fn form_sum(
     w: usize,
 ) -> usize
     requires { PairAsked left.old a b right.old w
-        × LayAsked left.old top (sourceSize a + sourceSize b) w }
-    ensures { Laid w left.old left.new top result (addPoly (gf m)
+        × LayAsked left.old top (source_size a + source_size b) w }
+    ensures { Laid w left.old left.new top result (add_poly (gf m)
         (source_of w left.old a) (source_of w left.old b)) }
 {
     load_pair(left, a, b, right, w);
@@ -71,8 +71,8 @@ pub(crate) fn form_product(
     w: usize,
 ) -> usize
     requires { PairAsked left.old a b right.old w
-        × LayAsked left.old top (sourceSize a * sourceSize b) w }
-    ensures { Laid w left.old left.new top result (mulPoly (gf m)
+        × LayAsked left.old top (source_size a * source_size b) w }
+    ensures { Laid w left.old left.new top result (mul_poly (gf m)
         (source_of w left.old a) (source_of w left.old b)) }
 {
     load_pair(left, a, b, right, w);
@@ -108,9 +108,9 @@ pub(crate) fn form_image(
     w: usize,
 ) -> usize
     requires { Modulus m × (f < 8) × LoadAsked left.old a right.old 0 w
-        × LayAsked left.old top (oneIf c + nonzeros (get_or lists f []) * sourceSize a) w }
+        × LayAsked left.old top (one_if c + nonzeros (get_or lists f []) * source_size a) w }
     ensures { Laid w left.old left.new top result
-        (mapPoly (gf m) (w - 1) c (get_or lists f []) (source_of w left.old a)) }
+        (map_poly (gf m) (w - 1) c (get_or lists f []) (source_of w left.old a)) }
 {
     load(left, a, right, 0, w);
     let k = size_of(a);

@@ -1,9 +1,9 @@
 // Polynomials laid in a work buffer as terms of w bytes; places are counted in terms.
 ghost use Rattle.std.specs.Prelude.{◌+◌, ◌*◌, ◌-◌, ◌<◌, ◌≤◌, length};
 ghost use Rattle.poly.specs.Poly.{constant, variable, units};
-ghost use Rattle.poly.specs.Size.{oneIf};
-ghost use Rattle.values.specs.Shelf.{termsAt, Laid};
-ghost use Rattle.values.specs.Source.{source_of, sourceSize};
+ghost use Rattle.poly.specs.Size.{one_if};
+ghost use Rattle.values.specs.Shelf.{terms_at, Laid};
+ghost use Rattle.values.specs.Source.{source_of, source_size};
 ghost use Rattle.values.specs.Load.{LayAsked, LoadAsked};
 
 use crate::source::Source;
@@ -25,8 +25,8 @@ pub(crate) fn lay_variable(b: &mut [u8], at: usize, i: usize, w: usize)
 
 // Lays a constant, which has no term where it is 0.
 pub(crate) fn lay_constant(b: &mut [u8], at: usize, c: u8, w: usize)
-    requires { LayAsked b.old at (oneIf c) w }
-    ensures { Laid w b.old b.new at (oneIf c) (constant (w - 1) c) }
+    requires { LayAsked b.old at (one_if c) w }
+    ensures { Laid w b.old b.new at (one_if c) (constant (w - 1) c) }
 {
     if c == 0 {
         return;
@@ -53,7 +53,7 @@ pub(crate) fn lay_variables(b: &mut [u8], at: usize, i: usize, k: usize, w: usiz
 pub(crate) fn lay_stored(left: &[u8], from: usize, k: usize, b: &mut [u8], at: usize, w: usize)
     requires { ((from + k) * w ≤ length left.now) × LayAsked b.old at k w }
     ensures { Laid w b.old b.new at k
-        (termsAt w left.now from k) }
+        (terms_at w left.now from k) }
 {
     let start = from * w;
     let end = start + k * w;
@@ -64,7 +64,7 @@ pub(crate) fn lay_stored(left: &[u8], from: usize, k: usize, b: &mut [u8], at: u
 pub fn load(left: &[u8], s: Source, right: &mut [u8], at: usize, w: usize)
     requires { LoadAsked left.now s right.old at w }
     ensures { Laid w right.old right.new at
-        (sourceSize s) (source_of w left.now s) }
+        (source_size s) (source_of w left.now s) }
 {
     match s {
         Source::Constant(c) => lay_constant(right, at, c, w),

@@ -1,8 +1,8 @@
 // The raw size of a statement, from the sizes of its operands.
 ghost use Rattle.std.specs.Prelude.{◌≡◌, ◌+◌, ◌*◌, ◌≤◌};
-ghost use Rattle.poly.specs.Size.{oneIf, nonzeros};
-ghost use Rattle.values.specs.Raw.{mostStanding, SizeAsked, OperandSized};
-ghost use Rattle.values.specs.Found.{foundSize, RawAsked};
+ghost use Rattle.poly.specs.Size.{one_if, nonzeros};
+ghost use Rattle.values.specs.Raw.{most_standing, SizeAsked, OperandSized};
+ghost use Rattle.values.specs.Found.{found_size, RawAsked};
 
 use crate::found::Found;
 use crate::shelf::Shelf;
@@ -36,8 +36,8 @@ pub(crate) fn count_nonzero(list: [u8; 8]) -> usize
 // The raw size of an application to p terms: p for each coefficient that is not 0, and one for such
 // a constant.
 pub(crate) fn image_size(list: [u8; 8], c: u8, p: usize) -> usize
-    requires { p ≤ mostStanding }
-    ensures { result ≡ nonzeros list * p + oneIf c }
+    requires { p ≤ most_standing }
+    ensures { result ≡ nonzeros list * p + one_if c }
 {
     let k = count_nonzero(list) * p;
     if c == 0 { k } else { k + 1 }
@@ -46,7 +46,7 @@ pub(crate) fn image_size(list: [u8; 8], c: u8, p: usize) -> usize
 // The raw size of a statement.
 pub fn raw_size(lists: [[u8; 8]; 8], constants: [u8; 8], found: Found) -> usize
     requires { RawAsked found }
-    ensures { result ≡ foundSize lists constants found }
+    ensures { result ≡ found_size lists constants found }
 {
     match found {
         Found::Copy(a) => size_of(a),

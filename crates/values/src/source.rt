@@ -1,7 +1,7 @@
 // Where the polynomial of an operand is to be found.
 ghost use Rattle.std.specs.Prelude.{◌≡◌, ◌*◌, ◌<◌};
 ghost use Rattle.rules.specs.declared.types.Operand.TheVariants.{Place};
-ghost use Rattle.values.specs.Source.{Narrow, Located, sourceSize};
+ghost use Rattle.values.specs.Source.{Narrow, Located, source_size};
 
 use crate::shelf::Shelf;
 use rules::types::Operand;
@@ -54,7 +54,7 @@ pub(crate) fn locate(s: Scope, d: Shelf, a: Operand) -> Source
 
 // How many terms it has.
 pub fn size_of(s: Source) -> usize
-    ensures { result ≡ sourceSize s }
+    ensures { result ≡ source_size s }
 {
     match s {
         Source::Constant(c) => if c == 0 { 0 } else { 1 },

@@ -1,6 +1,6 @@
 // The value of a statement, formed above all values so far.
 ghost use Rattle.values.specs.Shelf.{Laid};
-ghost use Rattle.values.specs.Found.{foundValue};
+ghost use Rattle.values.specs.Found.{found_value};
 ghost use Rattle.values.specs.Value.{FormAsked};
 
 use crate::form::{form_copy, form_image, form_product, form_sum};
@@ -20,7 +20,7 @@ pub fn form_value(
 ) -> usize
     requires { FormAsked m lists constants found left.old top right.old w }
     ensures { Laid w left.old left.new top result
-        (foundValue m w lists constants left.old found) }
+        (found_value m w lists constants left.old found) }
 {
     match found {
         Found::Copy(a) => form_copy(left, top, a, right, w),

@@ -14,7 +14,7 @@ use Rattle.rules.specs.Read.{Routine}
 use Rattle.rules.specs.Formed.{Each, IsByte, Formed}
 use Rattle.verdict.specs.Lists.{lots, poured}
 use Rattle.verdict.specs.Meaning.{joined}
-use Rattle.verdict.specs.Instances.{modulusOf, bytes, bytes_of}
+use Rattle.verdict.specs.Instances.{modulus_of, bytes, bytes_of}
 use Rattle.verdict.specs.Equivalent.{original}
 use Rattle.verdict.specs.Run.{result_at}
 use Rattle.verdict.specs.Idle.{ShareOf, Unmoved, Indifferent, IdleInputs, UnmovedInputs}
@@ -22,10 +22,10 @@ use Rattle.verdict.proofs.Laws.Lists.{Square, parts-poured, each-poured, each-re
 use Rattle.rules.proofs.Laws.Letting.{each_append}
 use Rattle.verdict.proofs.Laws.Lists.{each_map, each_at, length-poured, square-lots, length-lots}
 use Rattle.verdict.proofs.Laws.Closed.{joined-closed}
-use Rattle.verdict.proofs.Laws.Value.{modulus-of}
-use Rattle.verdict.proofs.Laws.Bytes.{bytes-closed, bytes-each, bytes-length, bytes-of}
+use Rattle.verdict.proofs.Laws.Value.{modulus_of_lem}
+use Rattle.verdict.proofs.Laws.Bytes.{bytes-closed, bytes-each, bytes-length, bytes_of_lem}
 use Rattle.verdict.proofs.Laws.Definition.{result-original}
-use Rattle.verdict.proofs.Laws.Idle.{tally-map}
+use Rattle.verdict.proofs.Laws.Idle.{tally_map}
 
 -- ---- lots of a list
 
@@ -39,9 +39,9 @@ lots-at k (suc m) xs (suc j) l =
     ∙ ap (take k) (drop-drop (j * k) k xs ∙ ap (λ (n : ℕ). drop n xs) e)
 
 -- lots of two lists that agree there
-lot-same : (k from : ℕ) (xs ys : List ℕ) → length xs ≡ length ys
+lot_same : (k from : ℕ) (xs ys : List ℕ) → length xs ≡ length ys
     → ((v : ℕ) → from ≤ v → v < from + k → get_or xs v 0 ≡ get_or ys v 0) → take k (drop from xs) ≡ take k (drop from ys)
-lot-same k from xs ys n h =
+lot_same k from xs ys n h =
     ext_get_or 0 (take k (drop from xs)) (take k (drop from ys))
     (omega
     (arith, length-take k (drop from xs), length-take k (drop from ys), length-drop from xs, length-drop from ys))
@@ -84,9 +84,9 @@ unfolding joined bytes
 joined-alone m k x = ap (λ (y : ℕ). x ⊕ y) (joined-zeros m k) ∙ ⊕-zero x
 
 -- so do all inputs
-joins-alone : (m k : ℕ) (a : List ℕ) → map (joined (bytes m)) (map (alone k) a) ≡ a
-joins-alone m k [] = refl
-joins-alone m k (x ∷ a) = ap₂ {C = List ℕ} ◌∷◌ (joined-alone m k x) (joins-alone m k a)
+joins_alone : (m k : ℕ) (a : List ℕ) → map (joined (bytes m)) (map (alone k) a) ≡ a
+joins_alone m k [] = refl
+joins_alone m k (x ∷ a) = ap₂ {C = List ℕ} ◌∷◌ (joined-alone m k x) (joins_alone m k a)
 
 -- each has as many shares
 alone-square : (k : ℕ) (a : List ℕ) (m : ℕ) → length a ≡ m → Square (suc k) m (map (alone k) a)
@@ -115,8 +115,8 @@ module _ (r : Routine) (F : Formed r) (i : ℕ) (li : i < r.inputs) where
   inputs-bytes : (xs : List ℕ) → ByteList r.variables xs → ByteList r.inputs (inputs xs)
   unfolding bytes_of
   inputs-bytes xs b =
-      bytes-of r.inputs (inputs xs) (inputs-length xs b)
-      (each_map (Each IsByte) IsByte (joined (bytes_of r)) (joined-closed (bytes-closed (modulus-of r)))
+      bytes_of_lem r.inputs (inputs xs) (inputs-length xs b)
+      (each_map (Each IsByte) IsByte (joined (bytes_of r)) (joined-closed (bytes-closed (modulus_of_lem r)))
       (lots r.shares r.inputs xs)
       (each-lots IsByte r.shares r.inputs xs (bytes-each r.variables xs b)))
 
@@ -137,7 +137,7 @@ module _ (r : Routine) (F : Formed r) (i : ℕ) (li : i < r.inputs) where
     other-input j l n =
         let k = r.shares in
         input-at ys j l
-        ∙ ap (joined (bytes_of r)) (sym (lot-same k (j * k) xs ys
+        ∙ ap (joined (bytes_of r)) (sym (lot_same k (j * k) xs ys
         (bytes-length r.variables xs b ∙ sym (bytes-length r.variables ys c))
         (λ v p q. same v (λ s. apart v p q s (dec_le (suc i) j)))))
         ∙ sym (input-at xs j l)
@@ -196,7 +196,7 @@ module _ (r : Routine) (F : Formed r) (i : ℕ) (li : i < r.inputs) where
     xs-bytes =
         let n : ℕ = r.variables - r.inputs * r.shares in
         let ss : List (List ℕ) = map (alone k) a in
-        bytes-of r.variables xs
+        bytes_of_lem r.variables xs
         (omega (
           arith,
           length-append (poured ss) (replicate n 0),
@@ -211,7 +211,7 @@ module _ (r : Routine) (F : Formed r) (i : ℕ) (li : i < r.inputs) where
     -- the inputs are those that were given
     inputs-alone : inputs xs ≡ a
     unfolding bytes_of
-    inputs-alone = ap (map (joined (bytes_of r))) parted ∙ joins-alone (modulusOf r) k a
+    inputs-alone = ap (map (joined (bytes_of r))) parted ∙ joins_alone (modulus_of r) k a
 
     -- the first share of input i set to b sets the input
     inputs-moved : (b : ℕ) → inputs (set xs (i * r.shares) b) ≡ set a i b
@@ -224,7 +224,7 @@ module _ (r : Routine) (F : Formed r) (i : ℕ) (li : i < r.inputs) where
         ∙ ap₂ (λ (t : List ℕ) (c : ℕ). set t i c) inputs-alone
         (ap (λ (t : List (List ℕ)). J (set (get_or t i (alone k 0)) 0 b)) parted
         ∙ ap (λ (t : List ℕ). J (set t 0 b)) (get_or-map (alone k) a i 0)
-        ∙ joined-alone (modulusOf r) k b)
+        ∙ joined-alone (modulus_of r) k b)
 
     -- so the original's result stays
     stays : Indifferent r i → (b : ℕ) → b < 256 → original r (set a i b) ≡ original r a
@@ -238,16 +238,16 @@ module _ (r : Routine) (F : Formed r) (i : ℕ) (li : i < r.inputs) where
         ∙ result-original r xs ∙ ap (original r) inputs-alone
 
   -- THEOREM: an input of which there is a share is idle under run exactly where it is idle for the original
-  pub indifferent-original : 1 ≤ r.shares → Indifferent r i ↔ Unmoved r i
+  pub indifferent_original : 1 ≤ r.shares → Indifferent r i ↔ Unmoved r i
   unfolding Indifferent Unmoved
-  indifferent-original l = (
+  indifferent_original l = (
     λ h a b la lb. stays (r.shares - 1) (omega arith) a la h b lb,
     λ h xs ys b c same. moved-not xs ys b c same h,
   )
 
 -- THEOREM: as many inputs are idle under run as for the original
-pub unmoved-counts : (r : Routine) → Formed r → 1 ≤ r.shares → (n : ℕ) → IdleInputs r n ↔ UnmovedInputs r n
-unmoved-counts r F l n = (
-  tally-map (λ i h. indifferent-original r F i h l),
-  tally-map (λ i h. let e = indifferent-original r F i h l in (e.1, e.0)),
+pub unmoved_counts : (r : Routine) → Formed r → 1 ≤ r.shares → (n : ℕ) → IdleInputs r n ↔ UnmovedInputs r n
+unmoved_counts r F l n = (
+  tally_map (λ i h. indifferent_original r F i h l),
+  tally_map (λ i h. let e = indifferent_original r F i h l in (e.1, e.0)),
 )

@@ -3,16 +3,16 @@
 use Rattle.std.specs.Prelude.{◌≡◌, ℕ, zero, suc, ◌-◌, ◌*◌, List, [], ◌∷◌, map}
 use Rattle.poly.specs.Canon.{ByteList}
 use Rattle.rules.specs.Read.{Routine}
-use Rattle.verdict.specs.Meaning.{originValues, maskedValues, resultIn, outputsIn, joined}
+use Rattle.verdict.specs.Meaning.{origin_values, masked_values, result_in, outputs_in, joined}
 use Rattle.verdict.specs.Instances.{bytes_of}
 
 -- the original, on its inputs
 unfoldable pub original : Routine → List ℕ → ℕ
-original r a = resultIn (bytes_of r) r (originValues (bytes_of r) r a)
+original r a = result_in (bytes_of r) r (origin_values (bytes_of r) r a)
 
 -- the masked form, on the shares of each input and the random bytes: one byte for each name of the output line
 unfoldable pub masked : Routine → List (List ℕ) → List ℕ → List ℕ
-masked r s rs = outputsIn (bytes_of r) r (maskedValues (bytes_of r) r s rs)
+masked r s rs = outputs_in (bytes_of r) r (masked_values (bytes_of r) r s rs)
 
 -- how many random bytes the masked form draws: the variables that are no input's share
 unfoldable pub randoms : Routine → ℕ

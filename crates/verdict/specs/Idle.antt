@@ -4,9 +4,9 @@
 use Rattle.std.specs.Prelude.{◌≡◌, ℕ, zero, suc, ◌+◌, ◌*◌, ◌<◌, ◌≤◌, Bool, cond, List, slice_index, slice_set}
 use Rattle.poly.specs.Poly.{Poly}
 use Rattle.poly.specs.Canon.{ByteList}
-use Rattle.poly.specs.Occurs.{someOccurs}
+use Rattle.poly.specs.Occurs.{some_occurs}
 use Rattle.rules.specs.Read.{Routine}
-use Rattle.verdict.specs.Instances.{reducedResult}
+use Rattle.verdict.specs.Instances.{reduced_result}
 use Rattle.verdict.specs.Equivalent.{original}
 use Rattle.verdict.specs.Run.{result_at}
 
@@ -43,7 +43,7 @@ UnmovedInputs r n = Tally (Unmoved r) r.inputs n
 
 -- a share of input i occurs in p
 unfoldable pub matters : Routine → Poly → ℕ → Bool
-matters r p i = someOccurs (i * r.shares) r.shares p
+matters r p i = some_occurs (i * r.shares) r.shares p
 
 -- how many numbers below n fail the test
 unfoldable pub failing : ℕ → (ℕ → Bool) → ℕ
@@ -52,4 +52,4 @@ failing (suc n) test = cond (test n) 0 1 + failing n test
 
 -- how many inputs have no share that occurs in the reduced result
 unfoldable pub idle : Routine → ℕ
-idle r = let p = reducedResult r in failing r.inputs (matters r p)
+idle r = let p = reduced_result r in failing r.inputs (matters r p)

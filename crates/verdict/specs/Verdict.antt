@@ -9,12 +9,12 @@ use Rattle.rules.specs.Read.{Routine, Reading}
 use Rattle.verdict.specs.declared.report.Report.{Report}
 use Rattle.verdict.specs.Instances.{symbolic, difference}
 use Rattle.verdict.specs.Equivalent.{Equivalent}
-use Rattle.verdict.specs.Run.{result_at, joinedAt}
-use Rattle.verdict.specs.Count.{Step, stepAt, steps, standing, mostTerms, Over, First}
+use Rattle.verdict.specs.Run.{result_at, joined_at}
+use Rattle.verdict.specs.Count.{Step, step_at, steps, standing, most_terms, Over, First}
 use Rattle.verdict.specs.Idle.{IdleInputs}
 use Rattle.verdict.specs.declared.report.Trials.{Trials}
-use Rattle.verdict.specs.Trials.{trialAt}
-use Rattle.verdict.specs.Judge.{Outcome, refused, equal, differs, unknown, found, workBytes}
+use Rattle.verdict.specs.Trials.{trial_at}
+use Rattle.verdict.specs.Judge.{Outcome, refused, equal, differs, unknown, found, work_bytes}
 
 -- the places that the count goes through
 unfoldable pub places_of : Routine → List Step
@@ -22,15 +22,15 @@ places_of r = steps r (symbolic r)
 
 -- place i is the first over the limit
 abbrev pub GivenUp : Routine → ℕ → Type 0
-GivenUp r i = First (mostTerms r) (standing r (places_of r)) (places_of r) i
+GivenUp r i = First (most_terms r) (standing r (places_of r)) (places_of r) i
 
 -- no place is over the limit
 abbrev pub Decided : Routine → Type 0
-Decided r = (i : ℕ) → i < length (places_of r) → Over (mostTerms r) (standing r (places_of r)) (places_of r) i → ⊥
+Decided r = (i : ℕ) → i < length (places_of r) → Over (most_terms r) (standing r (places_of r)) (places_of r) i → ⊥
 
 -- run's two bytes agree for every byte of every variable
 abbrev pub Agrees : Routine → Type 0
-Agrees r = (xs : List ℕ) → ByteList r.variables xs → result_at r xs ≡ joinedAt r xs
+Agrees r = (xs : List ℕ) → ByteList r.variables xs → result_at r xs ≡ joined_at r xs
 
 -- equal: the count stays within the limit, and Definition 1 holds; i inputs are idle
 pub record Equals (r : Routine) (i : ℕ) : Type 0 where
@@ -44,8 +44,8 @@ pub record Equals (r : Routine) (i : ℕ) : Type 0 where
 pub record Differing (r : Routine) (terms i : ℕ) (bs : List ℕ) : Type 0 where
   pub counted : Decided r
   pub bytes : ByteList r.variables bs
-  pub differ : result_at r bs ≢ joinedAt r bs
-  pub first : (xs : List ℕ) → ByteList r.variables xs → Before xs bs → result_at r xs ≡ joinedAt r xs
+  pub differ : result_at r bs ≢ joined_at r bs
+  pub first : (xs : List ℕ) → ByteList r.variables xs → Before xs bs → result_at r xs ≡ joined_at r xs
   pub bounded : Within (highest r.variables (difference r)) bs
   pub termed : terms ≡ length (difference r)
   pub idled : IdleInputs r i
@@ -59,11 +59,11 @@ Listed r a bs = Differing r a.terms a.idle bs × (a.tried ≡ sum bs + length bs
 pub record FirstPlace (r : Routine) (line : ℕ) : Type 0 where
   pub at : ℕ
   pub given : GivenUp r at
-  pub lined : (stepAt (places_of r) at).line ≡ line
+  pub lined : (step_at (places_of r) at).line ≡ line
 
 -- run's two bytes agree on the first n trials
 abbrev pub TrialsAgree : Routine → (start n : ℕ) → Type 0
-TrialsAgree r start n = (i : ℕ) → i < n → result_at r (trialAt r start i) ≡ joinedAt r (trialAt r start i)
+TrialsAgree r start n = (i : ℕ) → i < n → result_at r (trial_at r start i) ≡ joined_at r (trial_at r start i)
 
 -- unknown: the line is that of the first place over the limit, and all trials that were asked for agree
 pub record Unknowns (t : Trials) (r : Routine) (line made : ℕ) : Type 0 where
@@ -78,8 +78,8 @@ pub record Finds (t : Trials) (r : Routine) (line made : ℕ) (bs : List ℕ) : 
   pub trial : ℕ
   pub asked : trial < t.count
   pub count : made ≡ suc trial
-  pub bytes : bs ≡ trialAt r t.start trial
-  pub differ : result_at r bs ≢ joinedAt r bs
+  pub bytes : bs ≡ trial_at r t.start trial
+  pub differ : result_at r bs ≢ joined_at r bs
   pub before : TrialsAgree r t.start trial
 
 -- what an outcome claims of an accepted text; it is never refused
@@ -115,8 +115,8 @@ RefusedAs false false (Reading.accepted r) number line = ⊥
 -- a work buffer after equal, differs, unknown and found: the first 65,280 bytes are zero, every other byte is unchanged
 pub record Cleared (w w' : List ℕ) : Type 0 where
   pub size : length w' ≡ length w
-  pub front : (i : ℕ) → i < workBytes → slice_index w' i ≡ 0
-  pub behind : (i : ℕ) → workBytes ≤ i → slice_index w' i ≡ slice_index w i
+  pub front : (i : ℕ) → i < work_bytes → slice_index w' i ≡ 0
+  pub behind : (i : ℕ) → work_bytes ≤ i → slice_index w' i ≡ slice_index w i
 
 -- the byte list after differs and found: every byte after the first n is unchanged
 pub record KeptBehind (n : ℕ) (l l' : List ℕ) : Type 0 where

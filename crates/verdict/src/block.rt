@@ -1,11 +1,11 @@
 // The values of a block of statements on bytes, and the XOR of some of them.
 ghost use Rattle.std.specs.Prelude.{◌≡◌, ◌*◌, ◌≤◌, map, length, take};
-ghost use Rattle.tokens.specs.Limits.{mostShares};
-ghost use Rattle.text.specs.Routine.{outputsOf};
-ghost use Rattle.rules.specs.Limits.{mostMaps};
-ghost use Rattle.verdict.specs.Meaning.{mapAt, value_at, operand, given, joined};
+ghost use Rattle.tokens.specs.Limits.{most_shares};
+ghost use Rattle.text.specs.Routine.{outputs_of};
+ghost use Rattle.rules.specs.Limits.{most_maps};
+ghost use Rattle.verdict.specs.Meaning.{map_at, value_at, operand, given, joined};
 ghost use Rattle.verdict.specs.Instances.{bytes};
-ghost use Rattle.verdict.specs.Block.{inputValues, Begun, Roomy, Filled};
+ghost use Rattle.verdict.specs.Block.{input_values, Begun, Roomy, Filled};
 
 use rules::types::{AffineMap, Op, Operand};
 use text::routine::Routine;
@@ -13,7 +13,7 @@ use text::routine::Routine;
 // Puts the value of each input, the XOR of its k shares, at the front.
 pub(crate) fn begin_origin(m: u8, k: usize, inputs: usize, xs: &[u8], vs: &mut [u8])
     requires { (inputs * k ≤ length xs.now) × (inputs ≤ length vs.old) }
-    ensures { Begun inputs (inputValues m k inputs xs.now)
+    ensures { Begun inputs (input_values m k inputs xs.now)
         vs.old vs.new }
 {
     let mut i = 0;
@@ -62,7 +62,7 @@ pub(crate) fn fill(m: u8, r: Routine, from: usize, to: usize, xs: &[u8], vs: &mu
 
 // What a statement gives, from the variables xs and the values vs of its set.
 fn given(m: u8, maps: [AffineMap; 8], count: usize, xs: &[u8], vs: &[u8], op: Op) -> u8
-    requires { count ≤ mostMaps }
+    requires { count ≤ most_maps }
     ensures { result ≡
         given (bytes m) (take count maps) xs.now vs.now op }
 {
@@ -97,8 +97,8 @@ pub(crate) fn value_at(m: u8, vs: &[u8], i: usize) -> u8
 
 // The map at a place; past the last it is 0 everywhere.
 fn map_at(maps: [AffineMap; 8], count: usize, f: usize) -> AffineMap
-    requires { count ≤ mostMaps }
-    ensures { result ≡ mapAt (take count maps) f }
+    requires { count ≤ most_maps }
+    ensures { result ≡ map_at (take count maps) f }
 {
     if f < count {
         maps[f]
@@ -134,9 +134,9 @@ fn join(m: u8, xs: &[u8]) -> u8
 
 // The XOR of the values that the output line names.
 pub(crate) fn join_outputs(m: u8, r: Routine, vs: &[u8]) -> u8
-    requires { r.named ≤ mostShares }
+    requires { r.named ≤ most_shares }
     ensures { result ≡
-        joined (bytes m) (map (value_at (bytes m) vs.now) (outputsOf r)) }
+        joined (bytes m) (map (value_at (bytes m) vs.now) (outputs_of r)) }
 {
     let mut sum: u8 = 0;
     let mut i = r.named;

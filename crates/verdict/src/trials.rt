@@ -1,9 +1,9 @@
 // Trials where the verdict is unknown: each runs a routine on bytes from a number that runs on.
 ghost use Rattle.std.specs.Prelude.{◌≡◌, ◌<◌, ◌≤◌, length};
-ghost use Rattle.rules.specs.Limits.{mostVariables};
+ghost use Rattle.rules.specs.Limits.{most_variables};
 ghost use Rattle.text.specs.Routine.{routine_of, Counted};
-ghost use Rattle.verdict.specs.Judge.{defaultTrials};
-ghost use Rattle.verdict.specs.Trials.{stepped, topByte, agreesOn, try, TrialIs, foundOf};
+ghost use Rattle.verdict.specs.Judge.{default_trials};
+ghost use Rattle.verdict.specs.Trials.{stepped, top_byte, agrees_on, try, TrialIs, found_of};
 
 use crate::report::Trials;
 use crate::run::{masked, original};
@@ -36,7 +36,7 @@ pub struct Tried {
 
 // What is asked for where nothing is said.
 pub fn default_trials() -> Trials
-    ensures { result ≡ defaultTrials }
+    ensures { result ≡ default_trials }
 {
     Trials {
         count: DEFAULT_COUNT,
@@ -53,14 +53,14 @@ fn stepped(n: u32) -> u32
 
 // The top eight bits of a number.
 fn top_byte(n: u32) -> u8
-    ensures { result ≡ topByte n }
+    ensures { result ≡ top_byte n }
 {
     (n / 16777216) as u8
 }
 
 // The first v bytes from a number, and the number after them.
 fn draw(number: u32, v: usize) -> Trial
-    requires { v ≤ mostVariables }
+    requires { v ≤ most_variables }
     ensures { TrialIs number v result }
 {
     let mut bytes = [0u8; MOST_VARIABLES];
@@ -78,7 +78,7 @@ fn draw(number: u32, v: usize) -> Trial
 // Whether run gives one byte twice.
 pub fn agrees_on(r: Routine, xs: &[u8]) -> bool
     requires { Counted r × (r.variables ≡ length xs.now) }
-    ensures { result ≡ agreesOn (routine_of r) xs.now }
+    ensures { result ≡ agrees_on (routine_of r) xs.now }
 {
     original(r, xs) == masked(r, xs)
 }
@@ -86,7 +86,7 @@ pub fn agrees_on(r: Routine, xs: &[u8]) -> bool
 // Makes up to so many trials of an accepted text's routine; stops at the first that differs.
 pub fn try_all(r: Routine, t: Trials) -> Tried
     requires { Counted r }
-    ensures { foundOf r.variables result ≡ try (routine_of r) t.count t.start }
+    ensures { found_of r.variables result ≡ try (routine_of r) t.count t.start }
 {
     let v = r.variables;
     let count = t.count as usize;

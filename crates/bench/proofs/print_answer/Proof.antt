@@ -1,5 +1,5 @@
 -- `bench::print_answer` meets its contract. Assumes nothing.
-use Rattle.print.proofs.Printed.{formed-le}
+use Rattle.print.proofs.Printed.{formed_le}
 use lib.Seq.{length-take-le}
 use mathlib.Core.Path.{sym}
 use borrow.Author.Rules.{rules}
@@ -13,10 +13,10 @@ answer-requires : tie.Need-answer-requires
 answer-requires c κs = search rules
 
 array-share-prefix-out : tie.Need-array-share-prefix-out
-array-share-prefix-out c = formed-le c.before.answer.ensures
+array-share-prefix-out c = formed_le c.before.answer.ensures
 
 slice-aggregate-write-all : tie.Need-slice-aggregate-write-all
-slice-aggregate-write-all c = sym (length-take-le _ _ (formed-le c.before.before.answer.ensures))
+slice-aggregate-write-all c = sym (length-take-le _ _ (formed_le c.before.before.answer.ensures))
 
 write-all-requires : tie.Need-write-all-requires
 write-all-requires c κs = search rules

@@ -1,6 +1,6 @@
 -- `bench::read_text` meets its contract. Assumes nothing.
 use native.Mathlib.Nat.{le_trans, le_of_eq}
-use Rattle.bench.proofs.Reading.{counts, filled-le, filled-less}
+use Rattle.bench.proofs.Reading.{counts, filled_le, filled-less}
 use borrow.Author.Rules.{rules}
 use native.Mathlib.Omega.{arith}
 use Prim.Native.Nat.{◌≤◌, ◌-◌}
@@ -43,7 +43,7 @@ add_at c =
     let l = r.before.before.before.loop in
     omega (
       arith,
-      filled-le l.at r.read_Some.result.count l.text r.read_Some.new.0 l.invariant.1
+      filled_le l.at r.read_Some.result.count l.text r.read_Some.new.0 l.invariant.1
           t.text.given.0 t.text.given.1 r.read_Some.ensures.0,
       t.text.given.1,
     )
@@ -62,7 +62,7 @@ loop-again c =
     let r = t.before in
     let l = r.before.before.before.loop in (
       t.text.given.1 ∙ l.invariant.0,
-      filled-le l.at r.read_Some.result.count l.text r.read_Some.new.0
+      filled_le l.at r.read_Some.result.count l.text r.read_Some.new.0
           l.invariant.1 t.text.given.0 t.text.given.1 r.read_Some.ensures.0,
     )
 

@@ -9,7 +9,7 @@ use lib.Seq.{length-take-le, drop-cons}
 use Rattle.field.specs.Laws.{Ops, gf}
 use Rattle.poly.specs.Poly.{term, Poly, insert, into}
 use Rattle.poly.specs.Canon.{Sorted}
-use Rattle.buffer.specs.Buffer.{termAt, readTerms}
+use Rattle.buffer.specs.Buffer.{term_at, read_terms}
 use Rattle.buffer.specs.Insert.{Holds, InsertAsked, Inserted, InsertedAny, AddAsked, AddedAny}
 use Rattle.poly.proofs.Laws.Sum.{into-sorted, into-length}
 use Rattle.buffer.proofs.Lent.Reads.{read_length}
@@ -22,7 +22,7 @@ pub holds-count : {b b' : List ℕ} {w top r : ℕ} {p : Poly} → Holds b b' w 
 holds-count {b} {b'} {w} {top} {r} {p} h = sym (read_length (w - 1) b' 0 r) ∙ ap length h.terms
 
 -- a buffer that nothing was done to
-pub holds-start : (b : List ℕ) (w top m : ℕ) → Holds b b w top m (readTerms (w - 1) b 0 m)
+pub holds-start : (b : List ℕ) (w top m : ℕ) → Holds b b w top m (read_terms (w - 1) b 0 m)
 holds-start b w top m = record { size = refl; terms = refl; high = λ j h. refl }
 
 -- one term more, where it has w bytes and there is room for it below top
@@ -31,20 +31,20 @@ pub holds-insert : (F : Ops) (b₀ b b' : List ℕ) (w top m r : ℕ) (t : List 
 holds-insert F b₀ b b' w top m r t p l g h i = record {
   size = i.size ∙ h.size;
   terms =
-      subst (λ (x : ℕ). readTerms (x - 1) b' 0 r ≡ insert F (get_or t 0 0) (drop 1 t) (readTerms (x - 1) b 0 m)) l
+      subst (λ (x : ℕ). read_terms (x - 1) b' 0 r ≡ insert F (get_or t 0 0) (drop 1 t) (read_terms (x - 1) b 0 m)) l
       i.terms
       ∙ ap (insert F (get_or t 0 0) (drop 1 t)) h.terms;
   high = λ j k. i.high j (subst (λ (x : ℕ). suc m * x ≤ j) (sym l) (omega arith)) ∙ h.high j k;
 }
 
 -- what `insert_term` asks for a term of w bytes
-pub insert-asks : (b : List ℕ) (w m : ℕ) (t : List ℕ) → length t ≡ w → 0 < w → suc m * w ≤ length b
-    → Sorted (readTerms (w - 1) b 0 m)
+pub insert_asks : (b : List ℕ) (w m : ℕ) (t : List ℕ) → length t ≡ w → 0 < w → suc m * w ≤ length b
+    → Sorted (read_terms (w - 1) b 0 m)
     → InsertAsked b m t
-insert-asks b w m t l p f s = record {
+insert_asks b w m t l p f s = record {
   some = subst (λ (x : ℕ). 0 < x) (sym l) p;
   room = subst (λ (x : ℕ). suc m * x ≤ length b) (sym l) f;
-  sorted = subst (λ (x : ℕ). Sorted (readTerms (x - 1) b 0 m)) (sym l) s;
+  sorted = subst (λ (x : ℕ). Sorted (read_terms (x - 1) b 0 m)) (sym l) s;
 }
 
 -- with the terms q inserted among d, and room for another of at most k
@@ -55,9 +55,9 @@ module _ (F : Ops) (b₀ b : List ℕ) (w k n : ℕ) (q d : Poly) (pos : 0 < w) 
   below = mul-le-mul_right w (omega (arith, holds-count h, into-length F q d))
 
   -- what the next insertion asks
-  pub more-asks : (t : List ℕ) → length t ≡ w → InsertAsked b n t
-  more-asks t l =
-      insert-asks b w n t l pos (omega (arith, below, h.size)) (subst Sorted (sym h.terms) (into-sorted F q d s))
+  pub more_asks : (t : List ℕ) → length t ≡ w → InsertAsked b n t
+  more_asks t l =
+      insert_asks b w n t l pos (omega (arith, below, h.size)) (subst Sorted (sym h.terms) (into-sorted F q d s))
 
   -- what the next insertion leaves
   pub more-holds : (b' t : List ℕ) (r : ℕ) → length t ≡ w → Inserted F b b' n t r
@@ -96,11 +96,11 @@ module _ (src : List ℕ) (at w : ℕ) (pos : 0 < w) (fits : at + w ≤ length s
 
 -- the terms of src from the one before the j-th on: that one, and those from the j-th on
 pub read_back : (src : List ℕ) (w j k at : ℕ) → 0 < w → 0 < j → j ≤ k → at + w ≡ j * w
-    → readTerms (w - 1) src at (k - (j - 1)) ≡ termAt (w - 1) src at ∷ readTerms (w - 1) src (j * w) (k - j)
+    → read_terms (w - 1) src at (k - (j - 1)) ≡ term_at (w - 1) src at ∷ read_terms (w - 1) src (j * w) (k - j)
 read_back src w j k at pos l g e =
     let s : k - (j - 1) ≡ suc (k - j) = omega arith in
     let u : at + suc (w - 1) ≡ j * w = omega arith in
-    ap (readTerms (w - 1) src at) s ∙ ap (λ (x : ℕ). termAt (w - 1) src at ∷ readTerms (w - 1) src x (k - j)) u
+    ap (read_terms (w - 1) src at) s ∙ ap (λ (x : ℕ). term_at (w - 1) src at ∷ read_terms (w - 1) src x (k - j)) u
 
 -- the j-th of k terms of src starts at byte `at`: the term before it
 module _ (src : List ℕ) (j k w at : ℕ) (pos : 0 < w) (l : 0 < j) (most : j ≤ k) (here : at ≡ j * w)
@@ -122,15 +122,15 @@ module _ (src : List ℕ) (j k w at : ℕ) (pos : 0 < w) (l : 0 < j) (most : j �
   prior-length = row-length src (at - w) w pos prior-fits
 
   -- the term, and those from the j-th on
-  pub read-prior : term (get_or prior 0 0) (drop 1 prior) ∷ readTerms (w - 1) src (j * w) (k - j)
-      ≡ readTerms (w - 1) src ((j - 1) * w) (k - (j - 1))
+  pub read-prior : term (get_or prior 0 0) (drop 1 prior) ∷ read_terms (w - 1) src (j * w) (k - j)
+      ≡ read_terms (w - 1) src ((j - 1) * w) (k - (j - 1))
   read-prior =
       let u = prior-place in
       let y : at - w ≡ (j - 1) * w = omega arith in
-      ap₂ {C = Poly} (λ (x : ℕ) (e : List ℕ). term x e ∷ readTerms (w - 1) src (j * w) (k - j))
+      ap₂ {C = Poly} (λ (x : ℕ) (e : List ℕ). term x e ∷ read_terms (w - 1) src (j * w) (k - j))
       (row-coef src (at - w) w pos prior-fits) (row-powers src (at - w) w pos prior-fits)
       ∙ sym (read_back src w j k (at - w) pos l most (omega arith))
-      ∙ ap (λ (x : ℕ). readTerms (w - 1) src x (k - (j - 1))) y
+      ∙ ap (λ (x : ℕ). read_terms (w - 1) src x (k - (j - 1))) y
 
 -- ---- the terms of src inserted, the last first
 
@@ -140,7 +140,7 @@ pub record InAdd (b₀ : List ℕ) (r : ℕ) (src : List ℕ) (k w : ℕ) (b : L
   pub most : j ≤ k
   pub here : at ≡ j * w
   pub holds : (m : ℕ) → Holds b₀ b w ((r + k) * w) n
-      (into (gf m) (readTerms (w - 1) src (j * w) (k - j)) (readTerms (w - 1) b₀ 0 r))
+      (into (gf m) (read_terms (w - 1) src (j * w) (k - j)) (read_terms (w - 1) b₀ 0 r))
 
 module _ {b₀ : List ℕ} {r : ℕ} {src : List ℕ} {k w : ℕ} where
   -- at first none is
@@ -153,7 +153,7 @@ module _ {b₀ : List ℕ} {r : ℕ} {src : List ℕ} {k w : ℕ} where
         here = refl;
         holds = λ m.
             subst (λ (x : ℕ). Holds b₀ b₀ w ((r + k) * w) r
-            (into (gf m) (readTerms (w - 1) src (k * w) x) (readTerms (w - 1) b₀ 0 r))) z
+            (into (gf m) (read_terms (w - 1) src (k * w) x) (read_terms (w - 1) b₀ 0 r))) z
             (holds-start b₀ w ((r + k) * w) r);
       }
 
@@ -163,8 +163,8 @@ module _ {b₀ : List ℕ} {r : ℕ} {src : List ℕ} {k w : ℕ} where
     add_done z m =
         let y : j * w ≡ 0 = ap (λ (x : ℕ). x * w) z ∙ zero-mul w in
         let x : k - j ≡ k = omega arith in
-        subst (λ (p : Poly). Holds b₀ b w ((r + k) * w) n (into (gf m) p (readTerms (w - 1) b₀ 0 r)))
-        (ap₂ (λ (u v : ℕ). readTerms (w - 1) src u v) y x) (h.holds m)
+        subst (λ (p : Poly). Holds b₀ b w ((r + k) * w) n (into (gf m) p (read_terms (w - 1) b₀ 0 r)))
+        (ap₂ (λ (u v : ℕ). read_terms (w - 1) src u v) y x) (h.holds m)
 
     module _ (l : 0 < j) where
       -- the place of the next term of src
@@ -181,20 +181,20 @@ module _ {b₀ : List ℕ} {r : ℕ} {src : List ℕ} {k w : ℕ} where
 
       -- the terms inserted so far
       abbrev done : Poly
-      done = readTerms (w - 1) src (j * w) (k - j)
+      done = read_terms (w - 1) src (j * w) (k - j)
 
       -- the terms that stood there
       abbrev there : Poly
-      there = readTerms (w - 1) b₀ 0 r
+      there = read_terms (w - 1) b₀ 0 r
 
       -- there is room for one more
       inside : length done + length there < r + k
       inside = omega (arith, read_length (w - 1) src (j * w) (k - j), read_length (w - 1) b₀ 0 r, h.most)
 
       -- what its insertion asks
-      pub add-asks : InsertAsked b n next
-      add-asks =
-          more-asks (gf 0) b₀ b w (r + k) n done there h.asked.some h.asked.room h.asked.sorted inside
+      pub add_asks : InsertAsked b n next
+      add_asks =
+          more_asks (gf 0) b₀ b w (r + k) n done there h.asked.some h.asked.room h.asked.sorted inside
           (h.holds 0) next next-length
 
       -- one term more is inserted

@@ -43,13 +43,13 @@ pub up-all : {b₀ b : List ℕ} {k from to by : ℕ} → MovedUp b₀ b k to by
 up-all {b₀} {b} {k} {from} {to} {by} h e = subst (λ (x : ℕ). MovedUp b₀ b x to by) e h
 
 -- nothing is moved down
-pub down-none : {b : List ℕ} {from by : ℕ} → MovedDown b b from from by
-down-none = record { size = refl; low = λ i h. refl; moved = λ i h k. absurd (omega arith); high = λ i h. refl }
+pub down_none : {b : List ℕ} {from by : ℕ} → MovedDown b b from from by
+down_none = record { size = refl; low = λ i h. refl; moved = λ i h k. absurd (omega arith); high = λ i h. refl }
 
 -- one byte more is moved down
-pub down-more : {b₀ b : List ℕ} {from j by : ℕ} → MovedDown b₀ b from j by → by ≤ from → from ≤ j → j < length b₀
+pub down_more : {b₀ b : List ℕ} {from j by : ℕ} → MovedDown b₀ b from j by → by ≤ from → from ≤ j → j < length b₀
     → MovedDown b₀ (set b (j - by) (get_or b j 0)) from (j + 1) by
-down-more {b₀} {b} {from} {j} {by} h p q r =
+down_more {b₀} {b} {from} {j} {by} h p q r =
     let s : j - by < length b = omega (arith, h.size) in
     record {
       size = length-set b (j - by) (get_or b j 0) ∙ h.size;
@@ -62,8 +62,8 @@ down-more {b₀} {b} {from} {j} {by} h p q r =
     }
 
 -- every byte is moved down
-pub down-all : {b₀ b : List ℕ} {from j to by : ℕ} → MovedDown b₀ b from j by → j ≡ to → MovedDown b₀ b from to by
-down-all {b₀} {b} {from} {j} {to} {by} h e = subst (λ (x : ℕ). MovedDown b₀ b from x by) e h
+pub down_all : {b₀ b : List ℕ} {from j to by : ℕ} → MovedDown b₀ b from j by → j ≡ to → MovedDown b₀ b from to by
+down_all {b₀} {b} {from} {j} {to} {by} h e = subst (λ (x : ℕ). MovedDown b₀ b from x by) e h
 
 -- nothing is written
 pub written_none : {b : List ℕ} {at : ℕ} → Written b b at []

@@ -11,12 +11,12 @@ use lib.ListN.{length, get_or, take, drop, set, length-set}
 use lib.Seq.{get_or-set_other}
 use Rattle.field.specs.Laws.{gf}
 use Rattle.poly.specs.Poly.{order, insert}
-use Rattle.buffer.specs.Buffer.{readTerms, answer}
+use Rattle.buffer.specs.Buffer.{read_terms, answer}
 use Rattle.buffer.proofs.Lent.Place.{AllBefore}
 use Rattle.buffer.specs.Insert.{Placed, Inserted}
 use Rattle.buffer.specs.Move.{MovedUp, MovedDown, Written}
-use Rattle.buffer.proofs.Lent.Strides.{row-end}
-use Rattle.buffer.proofs.Lent.Places.{mine, theirs, same-order, answer-unique, answer-less}
+use Rattle.buffer.proofs.Lent.Strides.{row_end}
+use Rattle.buffer.proofs.Lent.Places.{mine, theirs, same-order, answer_unique, answer-less}
 use Rattle.buffer.proofs.Lent.Inserting.{zero-front, one_more, one_less, other-coef}
 
 -- t's powers against those of the term at place i
@@ -29,8 +29,8 @@ pub there-same : (b t : List ℕ) (m i : ℕ) → 0 < length t → m * length t 
     (take (i * length t + length t - (i * length t + 1)) (drop (i * length t + 1) b))) ≡ 1
     → there b t i ≡ Ordering.eq
 there-same b t m i p f l h =
-    let g : i * length t + length t ≤ length b = omega (arith, row-end i m (length t) l) in
-    sym (same-order b t (i * length t) p g) ∙ answer-unique
+    let g : i * length t + length t ≤ length b = omega (arith, row_end i m (length t) l) in
+    sym (same-order b t (i * length t) p g) ∙ answer_unique
     (order (mine b t (i * length t) p g) (theirs b t (i * length t) p g)) Ordering.eq h
 
 -- a comparison that says t comes first
@@ -39,7 +39,7 @@ pub there-less : (b t : List ℕ) (m i : ℕ) → 0 < length t → m * length t 
     (take (i * length t + length t - (i * length t + 1)) (drop (i * length t + 1) b))) ≢ 1
     → there b t i ≡ Ordering.lt
 there-less b t m i p f d l h =
-    let g : i * length t + length t ≤ length b = omega (arith, row-end i m (length t) l) in
+    let g : i * length t + length t ≤ length b = omega (arith, row_end i m (length t) l) in
     answer-less (there b t i) (λ e. h (ap answer (same-order b t (i * length t) p g) ∙ e)) (d.before l)
 
 module _ (m' : ℕ) (b : List ℕ) (m i : ℕ) where
@@ -48,15 +48,15 @@ module _ (m' : ℕ) (b : List ℕ) (m i : ℕ) where
   less_one n = omega arith
 
   -- the coefficient is zero: nothing is done
-  pub ins-zero : (t : List ℕ) → 0 < length t → Placed b m t i → (i < m → there b t i ≡ Ordering.lt) → get_or t 0 0 ≡ 0
+  pub ins_zero : (t : List ℕ) → 0 < length t → Placed b m t i → (i < m → there b t i ≡ Ordering.lt) → get_or t 0 0 ≡ 0
       → Inserted (gf m') b b m t m
-  ins-zero [] p d a z = absurd (omega arith)
-  ins-zero (c ∷ e) p d a z =
+  ins_zero [] p d a z = absurd (omega arith)
+  ins_zero (c ∷ e) p d a z =
       let q = less_one (length e) in
       record {
         size = refl;
-        terms = subst (λ (x : ℕ). readTerms x b 0 m ≡ insert (gf m') c e (readTerms x b 0 m)) q
-            (zero-front m' b c e m i d.within (subst (λ (x : ℕ). AllBefore e (readTerms x b 0 i)) (sym q)
+        terms = subst (λ (x : ℕ). read_terms x b 0 m ≡ insert (gf m') c e (read_terms x b 0 m)) q
+            (zero-front m' b c e m i d.within (subst (λ (x : ℕ). AllBefore e (read_terms x b 0 i)) (sym q)
             d.behind)
             (λ l. subst (λ (x : ℕ). order e (take x (drop (suc (i * suc (length e))) b)) ≡ Ordering.lt) (sym q) (a l))
             z);
@@ -64,20 +64,20 @@ module _ (m' : ℕ) (b : List ℕ) (m i : ℕ) where
       }
 
   -- the terms behind move up, and t is written
-  pub ins-more : (t b₁ b₂ : List ℕ) → 0 < length t → suc m * length t ≤ length b → Placed b m t i
+  pub ins_more : (t b₁ b₂ : List ℕ) → 0 < length t → suc m * length t ≤ length b → Placed b m t i
       → (i < m → there b t i ≡ Ordering.lt) → 0 < get_or t 0 0
       → MovedUp b b₁ (i * length t) (m * length t) (length t) → Written b₁ b₂ (i * length t) t
       → Inserted (gf m') b b₂ m t (m + 1)
-  ins-more [] b₁ b₂ p f d a z u w = absurd (omega arith)
-  ins-more (c ∷ e) b₁ b₂ p f d a z u w =
+  ins_more [] b₁ b₂ p f d a z u w = absurd (omega arith)
+  ins_more (c ∷ e) b₁ b₂ p f d a z u w =
       let q = less_one (length e) in
       let s : suc m * suc (length e) ≡ m * suc (length e) + suc (length e) = suc-mul m (suc (length e)) in
       let r : i * suc (length e) ≤ m * suc (length e) = mul-le-mul_right (suc (length e)) d.within in
       record {
         size = w.size ∙ u.size;
-        terms = subst (λ (x : ℕ). readTerms x b₂ 0 (m + 1) ≡ insert (gf m') c e (readTerms x b 0 m)) q
-            (ap (readTerms (length e) b₂ 0) (add-one m)
-            ∙ one_more m' b c e m i d.within (subst (λ (x : ℕ). AllBefore e (readTerms x b 0 i)) (sym q)
+        terms = subst (λ (x : ℕ). read_terms x b₂ 0 (m + 1) ≡ insert (gf m') c e (read_terms x b 0 m)) q
+            (ap (read_terms (length e) b₂ 0) (add-one m)
+            ∙ one_more m' b c e m i d.within (subst (λ (x : ℕ). AllBefore e (read_terms x b 0 i)) (sym q)
             d.behind) b₂
             (λ l. subst (λ (x : ℕ). order e (take x (drop (suc (i * suc (length e))) b)) ≡ Ordering.lt) (sym q) (a l))
             z f
@@ -89,18 +89,18 @@ module _ (m' : ℕ) (b : List ℕ) (m i : ℕ) where
       }
 
   -- the joined coefficient is zero: the terms behind move down
-  pub ins-less : (t b' : List ℕ) → 0 < length t → suc m * length t ≤ length b → Placed b m t i → i < m
+  pub ins_less : (t b' : List ℕ) → 0 < length t → suc m * length t ≤ length b → Placed b m t i → i < m
       → there b t i ≡ Ordering.eq
       → get_or t 0 0 ⊕ get_or b (i * length t) 0 ≡ 0 → MovedDown b b' (i * length t + length t) (m * length t) (length t)
       → Inserted (gf m') b b' m t (m - 1)
-  ins-less [] b' p f d l a z u = absurd (omega arith)
-  ins-less (c ∷ e) b' p f d l a z u =
+  ins_less [] b' p f d l a z u = absurd (omega arith)
+  ins_less (c ∷ e) b' p f d l a z u =
       let q = less_one (length e) in
       let s : suc m * suc (length e) ≡ m * suc (length e) + suc (length e) = suc-mul m (suc (length e)) in
       record {
         size = u.size;
-        terms = subst (λ (x : ℕ). readTerms x b' 0 (m - 1) ≡ insert (gf m') c e (readTerms x b 0 m)) q
-            (one_less m' b c e m i d.within (subst (λ (x : ℕ). AllBefore e (readTerms x b 0 i)) (sym q)
+        terms = subst (λ (x : ℕ). read_terms x b' 0 (m - 1) ≡ insert (gf m') c e (read_terms x b 0 m)) q
+            (one_less m' b c e m i d.within (subst (λ (x : ℕ). AllBefore e (read_terms x b 0 i)) (sym q)
             d.behind) l
             (subst (λ (x : ℕ). order e (take x (drop (suc (i * suc (length e))) b)) ≡ Ordering.eq) (sym q) a)
             b' z (omega arith) u.size (λ j h. u.low j (omega arith)) (λ j h k. u.moved j (omega arith) k));
@@ -108,21 +108,21 @@ module _ (m' : ℕ) (b : List ℕ) (m i : ℕ) where
       }
 
   -- the joined coefficient is written
-  pub ins-coef : (t : List ℕ) → 0 < length t → suc m * length t ≤ length b → Placed b m t i → i < m
+  pub ins_coef : (t : List ℕ) → 0 < length t → suc m * length t ≤ length b → Placed b m t i → i < m
       → there b t i ≡ Ordering.eq
       → 0 < get_or t 0 0 ⊕ get_or b (i * length t) 0
       → Inserted (gf m') b (set b (i * length t) (get_or t 0 0 ⊕ get_or b (i * length t) 0)) m t m
-  ins-coef [] p f d l a z = absurd (omega arith)
-  ins-coef (c ∷ e) p f d l a z =
+  ins_coef [] p f d l a z = absurd (omega arith)
+  ins_coef (c ∷ e) p f d l a z =
       let q = less_one (length e) in
       let v : ℕ = c ⊕ get_or b (i * suc (length e)) 0 in
       let s : suc m * suc (length e) ≡ m * suc (length e) + suc (length e) = suc-mul m (suc (length e)) in
-      let g : i * suc (length e) + suc (length e) ≤ m * suc (length e) = row-end i m (suc (length e)) l in
+      let g : i * suc (length e) + suc (length e) ≤ m * suc (length e) = row_end i m (suc (length e)) l in
       record {
         size = length-set b (i * suc (length e)) v;
         terms =
-            subst (λ (x : ℕ). readTerms x (set b (i * suc (length e)) v) 0 m ≡ insert (gf m') c e (readTerms x b 0 m)) q
-            (other-coef m' b c e m i d.within (subst (λ (x : ℕ). AllBefore e (readTerms x b 0 i)) (sym q)
+            subst (λ (x : ℕ). read_terms x (set b (i * suc (length e)) v) 0 m ≡ insert (gf m') c e (read_terms x b 0 m)) q
+            (other-coef m' b c e m i d.within (subst (λ (x : ℕ). AllBefore e (read_terms x b 0 i)) (sym q)
             d.behind) l
             (subst (λ (x : ℕ). order e (take x (drop (suc (i * suc (length e))) b)) ≡ Ordering.eq) (sym q) a) z
             (omega arith));

@@ -14,11 +14,11 @@ module _ (F : Ops) where
   open F use {add, mul}
 
   -- the terms that come before it are passed over
-  pub insert-skip : (c : ℕ) (e : List ℕ) (p q : Poly) → AllBefore e p → insert F c e (p ++ q) ≡ p ++ insert F c e q
-  insert-skip c e [] q h = refl
-  insert-skip c e (term d f ∷ p) q h =
+  pub insert_skip : (c : ℕ) (e : List ℕ) (p q : Poly) → AllBefore e p → insert F c e (p ++ q) ≡ p ++ insert F c e q
+  insert_skip c e [] q h = refl
+  insert_skip c e (term d f ∷ p) q h =
       ap (λ (o : Ordering). place F o c e d f (p ++ q) (insert F c e (p ++ q))) h.0
-      ∙ ap {B = Poly} (λ r. term d f ∷ r) (insert-skip c e p q h.1)
+      ∙ ap {B = Poly} (λ r. term d f ∷ r) (insert_skip c e p q h.1)
 
   -- in front of a term that comes behind it
   pub insert-before : (c : ℕ) (e : List ℕ) (d : ℕ) (f : List ℕ) (q : Poly) → order e f ≡ Ordering.lt

@@ -12,9 +12,9 @@ use lib.ListN.{length, get_or, take, drop, length-drop}
 use lib.Seq.{length-take-le, take_all}
 use Rattle.poly.specs.Poly.{term, Poly, order}
 use Rattle.poly.specs.Canon.{Powers, Above, Sorted}
-use Rattle.buffer.specs.Buffer.{termAt, readTerms, answer}
-use Rattle.poly.proofs.Laws.Order.{order_lt, order-gt, order_trans}
-use Rattle.poly.proofs.Laws.Normal.{powers-append, above-trans}
+use Rattle.buffer.specs.Buffer.{term_at, read_terms, answer}
+use Rattle.poly.proofs.Laws.Order.{order_lt, order_gt, order_trans}
+use Rattle.poly.proofs.Laws.Normal.{powers_append, above_trans}
 use Rattle.buffer.proofs.Lent.Reads.{read_more, read-parts}
 use Rattle.buffer.proofs.Lent.Place.{AllBefore}
 use Rattle.buffer.proofs.Lent.Strides.{halfway, half-row}
@@ -35,8 +35,8 @@ ordering-answer Ordering.eq = refl
 ordering-answer Ordering.gt = refl
 
 -- one answer, one order
-pub answer-unique : (o p : Ordering) → answer o ≡ answer p → o ≡ p
-answer-unique o p h = sym (ordering-answer o) ∙ ap ordering h ∙ ordering-answer p
+pub answer_unique : (o p : Ordering) → answer o ≡ answer p → o ≡ p
+answer_unique o p h = sym (ordering-answer o) ∙ ap ordering h ∙ ordering-answer p
 
 -- 0 is what is left
 pub answer-less : (o : Ordering) → answer o ≢ 1 → o ≢ Ordering.gt → o ≡ Ordering.lt
@@ -62,8 +62,8 @@ module _ (b t : List ℕ) (at : ℕ) (pos : 0 < length t) (fits : at + length t 
   theirs-length = length-take-le (at + length t - (at + 1)) (drop (at + 1) b) (omega (arith, length-drop (at + 1) b))
 
   -- both parts have one length
-  pub same-lengths : length mine ≡ length theirs
-  same-lengths = omega (arith, mine-length, theirs-length)
+  pub same_lengths : length mine ≡ length theirs
+  same_lengths = omega (arith, mine-length, theirs-length)
 
   -- to compare the parts is to compare the powers
   pub same-order : order mine theirs ≡ order (drop 1 t) (take (length t - 1) (drop (suc at) b))
@@ -77,7 +77,7 @@ module _ (b t : List ℕ) (at : ℕ) (pos : 0 < length t) (fits : at + length t 
 -- powers that come before sorted terms come before each
 above-all : (g : List ℕ) (p : Poly) → Above g p → Sorted p → Powers (λ f. order g f ≡ Ordering.lt) p
 above-all g [] h s = tt
-above-all g (term d f ∷ p) h s = (h, above-all g p (above-trans g f p h s.0) s.1)
+above-all g (term d f ∷ p) h s = (h, above-all g p (above_trans g f p h s.0) s.1)
 
 -- what holds of all powers holds of those of a term in the middle
 middle_of : (P : List ℕ → Type 0) (p : Poly) (d : ℕ) (f : List ℕ) (q : Poly) → Powers P (p ++ (term d f ∷ q)) → P f
@@ -91,7 +91,7 @@ sorted-behind e [] d f q o s = tt
 sorted-behind e (term c g ∷ p) d f q o s =
     let l : order g f ≡ Ordering.lt = middle_of (λ y. order g y ≡ Ordering.lt) p d f q
     (above-all g (p ++ (term d f ∷ q)) s.0 s.1) in
-    (order_lt g e (order_trans g f e l (order-gt e f o)), sorted-behind e p d f q o s.1)
+    (order_lt g e (order_trans g f e l (order_gt e f o)), sorted-behind e p d f q o s.1)
 
 -- ---- halving
 
@@ -100,12 +100,12 @@ pub record Between (b : List ℕ) (m : ℕ) (t : List ℕ) (low high : ℕ) : Ty
   pub asked : PlaceAsked b m t
   pub least : low ≤ high
   pub most : high ≤ m
-  pub behind : AllBefore (drop 1 t) (readTerms (length t - 1) b 0 low)
+  pub behind : AllBefore (drop 1 t) (read_terms (length t - 1) b 0 low)
   pub before : high < m → order (drop 1 t) (take (length t - 1) (drop (suc (high * length t)) b)) ≢ Ordering.gt
 
 -- at first nothing is known
-pub between-all : (b : List ℕ) (m : ℕ) (t : List ℕ) → PlaceAsked b m t → Between b m t 0 m
-between-all b m t a =
+pub between_all : (b : List ℕ) (m : ℕ) (t : List ℕ) → PlaceAsked b m t → Between b m t 0 m
+between_all b m t a =
     record { asked = a; least = zero-le; most = le_refl m; behind = tt; before = λ l. absurd (omega arith) }
 
 -- at last the place is found
@@ -130,9 +130,9 @@ module _ (b : List ℕ) (m : ℕ) (t : List ℕ) (low high : ℕ) (g : low < hig
   middle-fits = half-row low high m (length t) (length b) g h.most h.asked.source
 
   -- its powers are as many as those of t
-  pub middle-lengths : length (mine b t (middle * length t) h.asked.some middle-fits)
+  pub middle_lengths : length (mine b t (middle * length t) h.asked.some middle-fits)
       ≡ length (theirs b t (middle * length t) h.asked.some middle-fits)
-  middle-lengths = same-lengths b t (middle * length t) h.asked.some middle-fits
+  middle_lengths = same_lengths b t (middle * length t) h.asked.some middle-fits
 
   -- the powers of t against those of the middle term
   abbrev compared : Ordering
@@ -140,8 +140,8 @@ module _ (b : List ℕ) (m : ℕ) (t : List ℕ) (low high : ℕ) (g : low < hig
       (theirs b t (middle * length t) h.asked.some middle-fits)
 
   -- the middle term comes before t, and so all below it
-  between-up : compared ≡ Ordering.gt → Between b m t (middle + 1) high
-  between-up c =
+  between_up : compared ≡ Ordering.gt → Between b m t (middle + 1) high
+  between_up c =
       let i : ℕ = middle in
       let u : i < high = halfway low high g in
       let n : ℕ = length t - 1 in
@@ -151,23 +151,23 @@ module _ (b : List ℕ) (m : ℕ) (t : List ℕ) (low high : ℕ) (g : low < hig
       ap (λ (x : ℕ). order (drop 1 t) (take n (drop (suc x) b))) a
       ∙ sym (same-order b t (i * length t) h.asked.some middle-fits) ∙ c in
       let r : m ≡ i + suc (m - suc i) = omega (arith, h.most) in
-      let d : AllBefore (drop 1 t) (readTerms n b 0 i) =
-      sorted-behind (drop 1 t) (readTerms n b 0 i) (get_or b (0 + i * suc n) 0) (take n (drop (suc (0 + i * suc n)) b))
-      (readTerms n b (0 + i * suc n + suc n) (m - suc i)) o
-      (subst Sorted (ap (readTerms n b 0) r ∙ read-parts n b 0 i (suc (m - suc i))) h.asked.sorted) in
+      let d : AllBefore (drop 1 t) (read_terms n b 0 i) =
+      sorted-behind (drop 1 t) (read_terms n b 0 i) (get_or b (0 + i * suc n) 0) (take n (drop (suc (0 + i * suc n)) b))
+      (read_terms n b (0 + i * suc n + suc n) (m - suc i)) o
+      (subst Sorted (ap (read_terms n b 0) r ∙ read-parts n b 0 i (suc (m - suc i))) h.asked.sorted) in
       record {
         asked = h.asked;
         least = omega arith;
         most = h.most;
-        behind = subst (AllBefore (drop 1 t)) (sym (ap (readTerms n b 0) (add-one i) ∙ read_more n b 0 i))
-            (powers-append (λ f. order (drop 1 t) f ≡ Ordering.gt) (readTerms n b 0 i)
-            (termAt n b (0 + i * suc n) ∷ []) d (o, tt));
+        behind = subst (AllBefore (drop 1 t)) (sym (ap (read_terms n b 0) (add-one i) ∙ read_more n b 0 i))
+            (powers_append (λ f. order (drop 1 t) f ≡ Ordering.gt) (read_terms n b 0 i)
+            (term_at n b (0 + i * suc n) ∷ []) d (o, tt));
         before = h.before;
       }
 
   -- the middle term does not
-  between-down : compared ≢ Ordering.gt → Between b m t low middle
-  between-down c = record {
+  between_down : compared ≢ Ordering.gt → Between b m t low middle
+  between_down c = record {
     asked = h.asked;
     least = omega arith;
     most = omega (arith, h.most, halfway low high g);
@@ -176,7 +176,7 @@ module _ (b : List ℕ) (m : ℕ) (t : List ℕ) (low high : ℕ) (g : low < hig
   }
 
   -- what the answer of the comparison tells: 2 that the place is above the middle, any other that it is not
-  pub between-told : (r : ℕ) → r ≡ answer compared
+  pub between_told : (r : ℕ) → r ≡ answer compared
       → (r ≡ 2 → Between b m t (middle + 1) high) × (r ≢ 2 → Between b m t low middle)
-  between-told r e =
-      (λ s. between-up (answer-unique compared Ordering.gt (sym e ∙ s)), λ s. between-down (λ q. s (e ∙ ap answer q)))
+  between_told r e =
+      (λ s. between_up (answer_unique compared Ordering.gt (sym e ∙ s)), λ s. between_down (λ q. s (e ∙ ap answer q)))

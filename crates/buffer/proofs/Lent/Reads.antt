@@ -8,31 +8,31 @@ use lib.ListN.{length, get_or, take, drop, length-take, length-drop}
 use lib.Seq.{ext_get_or, get_or-take, get_or-drop, length-take-le, drop-cons}
 use Rattle.poly.specs.Poly.{term, Poly}
 use Rattle.poly.specs.Canon.{ByteList, Raw}
-use Rattle.buffer.specs.Buffer.{termAt, readTerms}
+use Rattle.buffer.specs.Buffer.{term_at, read_terms}
 
 -- as many terms as were read
-pub read_length : (n : ℕ) (b : List ℕ) (at m : ℕ) → length (readTerms n b at m) ≡ m
+pub read_length : (n : ℕ) (b : List ℕ) (at m : ℕ) → length (read_terms n b at m) ≡ m
 read_length n b at zero = refl
 read_length n b at (suc m) = ap suc (read_length n b (at + suc n) m)
 
 -- the first j terms and the m after them
 pub read-parts : (n : ℕ) (b : List ℕ) (at j m : ℕ)
-    → readTerms n b at (j + m) ≡ readTerms n b at j ++ readTerms n b (at + j * suc n) m
+    → read_terms n b at (j + m) ≡ read_terms n b at j ++ read_terms n b (at + j * suc n) m
 read-parts n b at zero m =
     let e : at ≡ at + zero * suc n = omega (arith, nat-zero-mul (suc n)) in
-    ap (readTerms n b at) (zero-add m) ∙ ap (λ (k : ℕ). readTerms n b k m) e
+    ap (read_terms n b at) (zero-add m) ∙ ap (λ (k : ℕ). read_terms n b k m) e
 read-parts n b at (suc j) m =
     let e : at + suc n + j * suc n ≡ at + suc j * suc n = omega (arith, suc-mul j (suc n)) in
-    ap (readTerms n b at) (suc-add j m)
-    ∙ ap {B = Poly} (λ p. termAt n b at ∷ p)
-    (read-parts n b (at + suc n) j m ∙ ap (λ (k : ℕ). readTerms n b (at + suc n) j ++ readTerms n b k m) e)
+    ap (read_terms n b at) (suc-add j m)
+    ∙ ap {B = Poly} (λ p. term_at n b at ∷ p)
+    (read-parts n b (at + suc n) j m ∙ ap (λ (k : ℕ). read_terms n b (at + suc n) j ++ read_terms n b k m) e)
 
 -- one term more at the end
-pub read_more : (n : ℕ) (b : List ℕ) (at m : ℕ) → readTerms n b at (suc m) ≡ readTerms n b at
-    m ++ (termAt n b (at + m * suc n) ∷ [])
+pub read_more : (n : ℕ) (b : List ℕ) (at m : ℕ) → read_terms n b at (suc m) ≡ read_terms n b at
+    m ++ (term_at n b (at + m * suc n) ∷ [])
 read_more n b at m =
     let e : suc m ≡ m + 1 = omega arith in
-    ap (readTerms n b at) e ∙ read-parts n b at m 1
+    ap (read_terms n b at) e ∙ read-parts n b at m 1
 
 -- ---- two buffers of one length that agree on the bytes of the terms
 
@@ -52,7 +52,7 @@ part_same b b' from n l h =
 -- the terms of two buffers that agree there
 pub read_same : (n : ℕ) (b b' : List ℕ) (at m : ℕ) → length b ≡ length b'
     → ((i : ℕ) → at ≤ i → i < at + m * suc n → get_or b i 0 ≡ get_or b' i 0)
-    → readTerms n b at m ≡ readTerms n b' at m
+    → read_terms n b at m ≡ read_terms n b' at m
 read_same n b b' at zero l h = refl
 read_same n b b' at (suc m) l h =
     let e : suc m * suc n ≡ m * suc n + suc n = suc-mul m (suc n) in
@@ -74,7 +74,7 @@ part_bytes b from (suc n) h l =
 
 -- the terms of a buffer of bytes hold bytes
 pub read-raw : (n : ℕ) (b : List ℕ) (at m : ℕ) → ((i : ℕ) → get_or b i 0 < 256) → at + m * suc n ≤ length b
-    → Raw n (readTerms n b at m)
+    → Raw n (read_terms n b at m)
 read-raw n b at zero h l = record { coefs = tt; powers = tt }
 read-raw n b at (suc m) h l =
     let e : suc m * suc n ≡ m * suc n + suc n = suc-mul m (suc n) in
@@ -101,7 +101,7 @@ part-shift b b' from k n l m h =
 -- terms that stand k bytes further on in another buffer
 pub read-shift : (n : ℕ) (b b' : List ℕ) (at k m : ℕ) → at + m * suc n ≤ length b → at + k + m * suc n ≤ length b'
     → ((i : ℕ) → at ≤ i → i < at + m * suc n → get_or b' (i + k) 0 ≡ get_or b i 0)
-    → readTerms n b' (at + k) m ≡ readTerms n b at m
+    → read_terms n b' (at + k) m ≡ read_terms n b at m
 read-shift n b b' at k zero l g h = refl
 read-shift n b b' at k (suc m) l g h =
     let e : suc m * suc n ≡ m * suc n + suc n = suc-mul m (suc n) in
@@ -110,14 +110,14 @@ read-shift n b b' at k (suc m) l g h =
     (ap₂ term (h at (omega arith) (omega arith))
     (ap (λ (x : ℕ). take n (drop x b')) (sym (suc-add at k))
     ∙ part-shift b b' (suc at) k n (omega arith) (omega arith) (λ i j q. h i (omega arith) (omega arith))))
-    (ap (λ (x : ℕ). readTerms n b' x m) s
+    (ap (λ (x : ℕ). read_terms n b' x m) s
     ∙ read-shift n b b' (at + suc n) k m (omega arith) (omega arith) (λ i j q. h i (omega arith) (omega arith)))
 
 -- ---- a term that was written
 
 -- a term whose bytes stand at `at`
 pub term-written : (n : ℕ) (b : List ℕ) (at c : ℕ) (e : List ℕ) → length e ≡ n → at + suc n ≤ length b
-    → ((j : ℕ) → j < suc n → get_or b (at + j) 0 ≡ get_or (c ∷ e) j 0) → termAt n b at ≡ term c e
+    → ((j : ℕ) → j < suc n → get_or b (at + j) 0 ≡ get_or (c ∷ e) j 0) → term_at n b at ≡ term c e
 term-written n b at c e s q h =
     let z : at ≡ at + 0 = omega arith in
     let d : length (take n (drop (suc at) b)) ≡ n = length-take-le n (drop (suc at) b)

@@ -6,8 +6,8 @@ use native.Mathlib.Numerals.{add-one}
 use native.Mathlib.Omega.{arith}
 
 -- the i-th row of m ends within them
-pub row-end : (i m w : ℕ) → i < m → i * w + w ≤ m * w
-row-end i m w h = subst (λ (x : ℕ). x ≤ m * w) (suc-mul i w) (mul-le-mul_right w h)
+pub row_end : (i m w : ℕ) → i < m → i * w + w ≤ m * w
+row_end i m w h = subst (λ (x : ℕ). x ≤ m * w) (suc-mul i w) (mul-le-mul_right w h)
 
 -- the end of the i-th row
 pub next_row : (i w : ℕ) → (i + 1) * w ≡ i * w + w
@@ -22,9 +22,9 @@ pub row_count : (m w : ℕ) → 0 < w → m ≤ m * w
 row_count m w h = subst (λ (x : ℕ). x ≤ m * w) (mul-one m) (mul-le-mul_left m h)
 
 -- a number other than zero is above it
-pub pos-of-ne : (x : ℕ) → (x ≡ 0 → ⊥) → 0 < x
-pos-of-ne zero h = absurd (h refl)
-pos-of-ne (suc x) h = zero-lt-suc x
+pub pos_of_ne : (x : ℕ) → (x ≡ 0 → ⊥) → 0 < x
+pos_of_ne zero h = absurd (h refl)
+pos_of_ne (suc x) h = zero-lt-suc x
 
 -- the row before the j-th
 pub back-row : (j w : ℕ) → 0 < j → (j - 1) * w + w ≡ j * w
@@ -41,7 +41,7 @@ halfway low high h = omega arith
 pub half-row : (low high m w len : ℕ) → low < high → high ≤ m → m * w ≤ len → (low + (high - low) / 2) * w + w ≤ len
 half-row low high m w len h k f =
     let g : low + (high - low) / 2 < m = omega (arith, halfway low high h) in
-    omega (arith, row-end (low + (high - low) / 2) m w g)
+    omega (arith, row_end (low + (high - low) / 2) m w g)
 
 -- the row before the j-th, which ends at byte `at`, starts w bytes before it and stands below len
 abbrev pub Back : ℕ → ℕ → ℕ → ℕ → Type 0
@@ -56,4 +56,4 @@ back j k w at len l g e f =
 
 -- a row and the next one, of k rows of which j is not the last
 pub two-rows : (j k w : ℕ) → suc j < k → j * w + w + w ≤ k * w
-two-rows j k w h = omega (arith, row-end (suc j) k w h, suc-mul j w)
+two-rows j k w h = omega (arith, row_end (suc j) k w h, suc-mul j w)

@@ -7,32 +7,32 @@ use native.Mathlib.Decide.{dec_le}
 use native.Mathlib.Nat.{le_of_suc-le-suc}
 use lib.ListN.{length, get_or, take, drop, set, length-set, length-drop}
 use lib.Seq.{ext_get_or, get_or-drop, take_all, get_or-set_same, get_or-set_other}
-use Rattle.poly.specs.Poly.{reduce, addPows}
+use Rattle.poly.specs.Poly.{reduce, add_pows}
 use Rattle.buffer.specs.Move.{Written}
 use Rattle.buffer.proofs.Lent.Moves.{stored}
 
 -- ---- powers
 
 -- where the first factor has no more powers, as many as the second has
-addPows-length : (e f : List ℕ) → length e ≤ length f → length (addPows e f) ≡ length f
-addPows-length [] f h = refl
-addPows-length (a ∷ e) [] h = absurd (omega arith)
-addPows-length (a ∷ e) (b ∷ f) h = ap suc (addPows-length e f (le_of_suc-le-suc h))
+add_pows-length : (e f : List ℕ) → length e ≤ length f → length (add_pows e f) ≡ length f
+add_pows-length [] f h = refl
+add_pows-length (a ∷ e) [] h = absurd (omega arith)
+add_pows-length (a ∷ e) (b ∷ f) h = ap suc (add_pows-length e f (le_of_suc-le-suc h))
 
 -- each power that both have is the reduced sum
-addPows-both : (e f : List ℕ) (i : ℕ) → i < length e → length e ≤ length f
-    → get_or (addPows e f) i 0 ≡ reduce (get_or e i 0 + get_or f i 0)
-addPows-both [] f i l h = absurd (omega arith)
-addPows-both (a ∷ e) [] i l h = absurd (omega arith)
-addPows-both (a ∷ e) (b ∷ f) zero l h = refl
-addPows-both (a ∷ e) (b ∷ f) (suc i) l h = addPows-both e f i (le_of_suc-le-suc l) (le_of_suc-le-suc h)
+add_pows-both : (e f : List ℕ) (i : ℕ) → i < length e → length e ≤ length f
+    → get_or (add_pows e f) i 0 ≡ reduce (get_or e i 0 + get_or f i 0)
+add_pows-both [] f i l h = absurd (omega arith)
+add_pows-both (a ∷ e) [] i l h = absurd (omega arith)
+add_pows-both (a ∷ e) (b ∷ f) zero l h = refl
+add_pows-both (a ∷ e) (b ∷ f) (suc i) l h = add_pows-both e f i (le_of_suc-le-suc l) (le_of_suc-le-suc h)
 
 -- a power that the first lacks is the second's
-addPows-rest : (e f : List ℕ) (i : ℕ) → length e ≤ i → length e ≤ length f → get_or (addPows e f) i 0 ≡ get_or f i 0
-addPows-rest [] f i l h = refl
-addPows-rest (a ∷ e) [] i l h = absurd (omega arith)
-addPows-rest (a ∷ e) (b ∷ f) zero l h = absurd (omega arith)
-addPows-rest (a ∷ e) (b ∷ f) (suc i) l h = addPows-rest e f i (le_of_suc-le-suc l) (le_of_suc-le-suc h)
+add_pows-rest : (e f : List ℕ) (i : ℕ) → length e ≤ i → length e ≤ length f → get_or (add_pows e f) i 0 ≡ get_or f i 0
+add_pows-rest [] f i l h = refl
+add_pows-rest (a ∷ e) [] i l h = absurd (omega arith)
+add_pows-rest (a ∷ e) (b ∷ f) zero l h = absurd (omega arith)
+add_pows-rest (a ∷ e) (b ∷ f) (suc i) l h = add_pows-rest e f i (le_of_suc-le-suc l) (le_of_suc-le-suc h)
 
 -- a byte behind the first
 second : (p : List ℕ) (i : ℕ) → get_or (drop 1 p) i 0 ≡ get_or p (suc i) 0
@@ -89,22 +89,22 @@ module _ {p q t₀ t t' : List ℕ} {c j : ℕ} (h : Begun p q t₀ t c j)
 
   -- each power is that of the product
   power_at : (i : ℕ) → suc i < length q → Dec (suc i < j)
-      → get_or t' (suc i) 0 ≡ get_or (addPows (drop 1 p) (drop 1 q)) i 0
+      → get_or t' (suc i) 0 ≡ get_or (add_pows (drop 1 p) (drop 1 q)) i 0
   power_at i l (yes k) =
       g.low (suc i) k ∙ h.powers (suc i) (omega arith) k
-      ∙ sym (addPows-both (drop 1 p) (drop 1 q) i (omega (arith, length-drop 1 p)) fewer
+      ∙ sym (add_pows-both (drop 1 p) (drop 1 q) i (omega (arith, length-drop 1 p)) fewer
       ∙ ap₂ (λ (x y : ℕ). reduce (x + y)) (second p i) (second q i))
   power_at i l (no k) =
       copied (suc i) (omega arith) l
-      ∙ sym (addPows-rest (drop 1 p) (drop 1 q) i (omega (arith, length-drop 1 p)) fewer ∙ second q i)
+      ∙ sym (add_pows-rest (drop 1 p) (drop 1 q) i (omega (arith, length-drop 1 p)) fewer ∙ second q i)
 
   -- each byte is that of the product
-  byte_at : (i : ℕ) → i < length t' → get_or t' i 0 ≡ get_or (c ∷ addPows (drop 1 p) (drop 1 q)) i 0
+  byte_at : (i : ℕ) → i < length t' → get_or t' i 0 ≡ get_or (c ∷ add_pows (drop 1 p) (drop 1 q)) i 0
   byte_at zero l = g.low 0 some ∙ h.first
   byte_at (suc i) l = power_at i (omega (arith, g.size, h.size)) (dec_le (suc (suc i)) j)
 
   -- at last the product stands there
-  pub begun_all : t' ≡ c ∷ addPows (drop 1 p) (drop 1 q)
+  pub begun_all : t' ≡ c ∷ add_pows (drop 1 p) (drop 1 q)
   begun_all =
-      ext_get_or 0 t' (c ∷ addPows (drop 1 p) (drop 1 q))
-      (omega (arith, g.size, h.size, addPows-length (drop 1 p) (drop 1 q) fewer, length-drop 1 q)) byte_at
+      ext_get_or 0 t' (c ∷ add_pows (drop 1 p) (drop 1 q))
+      (omega (arith, g.size, h.size, add_pows-length (drop 1 p) (drop 1 q) fewer, length-drop 1 q)) byte_at

@@ -14,7 +14,7 @@ doubled (suc n) m = doubled n (m + m)
 
 module _ {F : Ops} (R : Ring F) where
   open F use {add, mul}
-  open R use {add_comm, add_assoc, add-zero, add-self, mul-byte, mul_comm, mul_assoc, distrib, one-mul}
+  open R use {add_comm, add_assoc, add-zero, add_self, mul-byte, mul_comm, mul_assoc, distrib, one-mul}
 
   -- zero on the left
   pub zero-add : (a : ℕ) → add 0 a ≡ a
@@ -25,17 +25,17 @@ module _ {F : Ops} (R : Ring F) where
   add_left_comm a b c = sym (add_assoc a b c) ∙ ap (λ (x : ℕ). add x c) (add_comm a b) ∙ add_assoc b a c
 
   -- two sums, added place by place
-  pub add-swap : (a b c d : ℕ) → add (add a b) (add c d) ≡ add (add a c) (add b d)
-  add-swap a b c d =
+  pub add_swap : (a b c d : ℕ) → add (add a b) (add c d) ≡ add (add a c) (add b d)
+  add_swap a b c d =
       add_assoc a b (add c d) ∙ ap (λ (x : ℕ). add a x) (add_left_comm b c d) ∙ sym (add_assoc a c (add b d))
 
   -- what is added twice is gone
   pub add_twice : (a b : ℕ) → add a (add a b) ≡ b
-  add_twice a b = sym (add_assoc a a b) ∙ ap (λ (x : ℕ). add x b) (add-self a) ∙ zero-add b
+  add_twice a b = sym (add_assoc a a b) ∙ ap (λ (x : ℕ). add x b) (add_self a) ∙ zero-add b
 
   -- a summand may be left out on both sides
-  pub add-cancel : (a b c : ℕ) → add a b ≡ add a c → b ≡ c
-  add-cancel a b c h = sym (add_twice a b) ∙ ap (λ (x : ℕ). add a x) h ∙ add_twice a c
+  pub add_cancel : (a b c : ℕ) → add a b ≡ add a c → b ≡ c
+  add_cancel a b c h = sym (add_twice a b) ∙ ap (λ (x : ℕ). add a x) h ∙ add_twice a c
 
   -- a sum is zero only where its parts are equal
   pub add_same : (a b : ℕ) → add a b ≡ 0 → a ≡ b
@@ -43,7 +43,7 @@ module _ {F : Ops} (R : Ring F) where
 
   -- a product with zero
   pub mul-zero : (a : ℕ) → mul a 0 ≡ 0
-  mul-zero a = ap (λ (x : ℕ). mul a x) (sym (add-self 0)) ∙ distrib a 0 0 ∙ add-self (mul a 0)
+  mul-zero a = ap (λ (x : ℕ). mul a x) (sym (add_self 0)) ∙ distrib a 0 0 ∙ add_self (mul a 0)
 
   -- zero times anything
   pub zero-mul : (a : ℕ) → mul 0 a ≡ 0
@@ -62,8 +62,8 @@ module _ {F : Ops} (R : Ring F) where
   mul_left_comm a b c = sym (mul_assoc a b c) ∙ ap (λ (x : ℕ). mul x c) (mul_comm a b) ∙ mul_assoc b a c
 
   -- two products, multiplied place by place
-  pub mul-swap : (a b c d : ℕ) → mul (mul a b) (mul c d) ≡ mul (mul a c) (mul b d)
-  mul-swap a b c d =
+  pub mul_swap : (a b c d : ℕ) → mul (mul a b) (mul c d) ≡ mul (mul a c) (mul b d)
+  mul_swap a b c d =
       mul_assoc a b (mul c d) ∙ ap (λ (x : ℕ). mul a x) (mul_left_comm b c d) ∙ sym (mul_assoc a c (mul b d))
 
   -- squaring is additive
@@ -78,28 +78,28 @@ module _ {F : Ops} (R : Ring F) where
   -- ---- powers
 
   -- a power is a byte
-  pub pow-byte : (a n : ℕ) → power mul a n < 256
-  pow-byte a zero = omega arith
-  pow-byte a (suc n) = mul-byte a (power mul a n)
+  pub pow_byte : (a n : ℕ) → power mul a n < 256
+  pow_byte a zero = omega arith
+  pow_byte a (suc n) = mul-byte a (power mul a n)
 
   -- powers of one byte multiply by adding
-  pub pow-add : (a m n : ℕ) → power mul a (m + n) ≡ mul (power mul a m) (power mul a n)
-  pow-add a zero n = ap (power mul a) (nat-zero-add n) ∙ sym (one-mul (power mul a n) (pow-byte a n))
-  pow-add a (suc m) n =
-      ap (power mul a) (suc-add m n) ∙ ap (mul a) (pow-add a m n) ∙ sym (mul_assoc a (power mul a m) (power mul a n))
+  pub pow_add : (a m n : ℕ) → power mul a (m + n) ≡ mul (power mul a m) (power mul a n)
+  pow_add a zero n = ap (power mul a) (nat-zero-add n) ∙ sym (one-mul (power mul a n) (pow_byte a n))
+  pow_add a (suc m) n =
+      ap (power mul a) (suc-add m n) ∙ ap (mul a) (pow_add a m n) ∙ sym (mul_assoc a (power mul a m) (power mul a n))
 
   -- a power that is squared n times over is doubled n times over
-  squared-pow : (n m a : ℕ) → squared mul n (power mul a m) ≡ power mul a (doubled n m)
-  squared-pow zero m a = refl
-  squared-pow (suc n) m a = ap (squared mul n) (sym (pow-add a m m)) ∙ squared-pow n (m + m) a
+  squared_pow : (n m a : ℕ) → squared mul n (power mul a m) ≡ power mul a (doubled n m)
+  squared_pow zero m a = refl
+  squared_pow (suc n) m a = ap (squared mul n) (sym (pow_add a m m)) ∙ squared_pow n (m + m) a
 
 module _ {F : Ops} (L : Laws F) where
   open F use {mul}
 
   -- Fermat: a to the 256th is a
-  pub pow-256 : (a : ℕ) → a < 256 → power mul a 256 ≡ a
-  pow-256 a h = sym (squared-pow L.ring 8 1 a) ∙ ap (squared mul 8) (mul-one L.ring a h) ∙ L.eight-squares a h
+  pub pow_256 : (a : ℕ) → a < 256 → power mul a 256 ≡ a
+  pow_256 a h = sym (squared_pow L.ring 8 1 a) ∙ ap (squared mul 8) (mul-one L.ring a h) ∙ L.eight_squares a h
 
   -- a power above 255 has the value of the power less 255
-  pub pow-less : (a k : ℕ) → a < 256 → power mul a (256 + k) ≡ power mul a (suc k)
-  pow-less a k h = pow-add L.ring a 256 k ∙ ap (λ (x : ℕ). mul x (power mul a k)) (pow-256 a h)
+  pub pow_less : (a k : ℕ) → a < 256 → power mul a (256 + k) ≡ power mul a (suc k)
+  pow_less a k h = pow_add L.ring a 256 k ∙ ap (λ (x : ℕ). mul x (power mul a k)) (pow_256 a h)

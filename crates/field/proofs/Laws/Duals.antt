@@ -12,13 +12,13 @@ use Rattle.field.specs.Xor.{◌⊕◌}
 use Rattle.field.specs.Field.{Modulus, double, shifted, times, squared}
 use Rattle.field.specs.Field.Modulus.{aes, seal}
 use Rattle.field.specs.Laws.{Ring, over}
-use Rattle.field.specs.Maps.{sum, dualOf}
+use Rattle.field.specs.Maps.{sum, dual_of}
 use Rattle.field.proofs.Laws.Computed.{each, each_at, same_at}
 use Rattle.field.proofs.Laws.Linear.{agree-byte}
-use Rattle.field.proofs.Laws.Xor.{⊕-shr, ⊕-mod}
+use Rattle.field.proofs.Laws.Xor.{⊕_shr, ⊕_mod}
 use Rattle.field.proofs.Laws.Ring.{ring}
 use Rattle.field.proofs.Laws.Powers.{squared-spread, squared-mul, squared-add, squared-zero, squared-one}
-use Rattle.field.proofs.Laws.Sums.{sum-cong, sum-spread, sum-map, sum_first, delta}
+use Rattle.field.proofs.Laws.Sums.{sum_cong, sum-spread, sum-map, sum_first, delta}
 use Rattle.field.proofs.Laws.Maps.{Dual, bits}
 
 -- a + a^2 + a^4 + .., n terms
@@ -52,10 +52,10 @@ module _ {mul : ℕ → ℕ → ℕ} (R : Ring (over mul)) {dual : List ℕ} (P 
   picks : (i x : ℕ) → i < 8 → x < 256 → sum 8 (λ j. squared mul j (mul (get_or dual i 0) x)) ≡ x / 2 ^ i % 2
   picks i x hi =
       agree-byte (λ x. sum 8 (λ j. squared mul j (mul (get_or dual i 0) x))) (λ x. x / 2 ^ i % 2)
-      (λ a b. sum-cong 8 (λ j h. ap (squared mul j) (R.distrib (get_or dual i 0) a b)
+      (λ a b. sum_cong 8 (λ j h. ap (squared mul j) (R.distrib (get_or dual i 0) a b)
       ∙ squared-spread R j (mul (get_or dual i 0) a) (mul (get_or dual i 0) b))
       ∙ sum-spread 8 (λ j. squared mul j (mul (get_or dual i 0) a)) (λ j. squared mul j (mul (get_or dual i 0) b)))
-      (λ a b. ap (λ x. x % 2) (⊕-shr i a b) ∙ ⊕-mod 1 (a / 2 ^ i) (b / 2 ^ i))
+      (λ a b. ap (λ x. x % 2) (⊕_shr i a b) ∙ ⊕_mod 1 (a / 2 ^ i) (b / 2 ^ i))
       (λ k hk. sym (trace-sum mul 8 (mul (get_or dual i 0) (2 ^ k)))
       ∙ same_at 8 (λ k. trace mul 8 (mul (get_or dual i 0) (2 ^ k))) (delta i)
       (each_at 8 (λ i. each 8 (λ k. eqb (trace mul 8 (mul (get_or dual i 0) (2 ^ k))) (delta i k))) P.picks i hi) k hk
@@ -66,7 +66,7 @@ module _ {mul : ℕ → ℕ → ℕ} (R : Ring (over mul)) {dual : List ℕ} (P 
   raise : (i : ℕ) (f g : ℕ → ℕ) → sum 8 (λ k. mul (squared mul i (f k)) (squared mul i (g k))) ≡ squared mul i
       (sum 8 (λ k. mul (f k) (g k)))
   raise i f g =
-      sum-cong 8 (λ k h. sym (squared-mul R i (f k) (g k)))
+      sum_cong 8 (λ k h. sym (squared-mul R i (f k) (g k)))
       ∙ sym (sum-map (squared mul i) (squared-spread R i) 8 (λ k. mul (f k) (g k)))
 
   squared-delta : (i a b : ℕ) → squared mul i (delta a b) ≡ delta a b
@@ -81,7 +81,7 @@ module _ {mul : ℕ → ℕ → ℕ} (R : Ring (over mul)) {dual : List ℕ} (P 
   above : (i d : ℕ) → d < 8 → gather i (d + i) ≡ delta i (i + d)
   unfolding gather
   above i d h =
-      sum-cong 8 (λ k l. ap (mul (squared mul i (2 ^ k))) (squared-add R i d (get_or dual k 0)))
+      sum_cong 8 (λ k l. ap (mul (squared mul i (2 ^ k))) (squared-add R i d (get_or dual k 0)))
       ∙ raise i (λ k. 2 ^ k) (λ k. squared mul d (get_or dual k 0))
       ∙ ap (squared mul i) (same_at 8 (λ d. sum 8 (λ k. mul (2 ^ k) (squared mul d (get_or dual k 0)))) (delta 0)
       P.upper d h)
@@ -90,7 +90,7 @@ module _ {mul : ℕ → ℕ → ℕ} (R : Ring (over mul)) {dual : List ℕ} (P 
   beneath : (j d : ℕ) → d < 8 → gather (d + j) j ≡ delta (j + d) j
   unfolding gather
   beneath j d h =
-      sum-cong 8 (λ k l. ap (λ x. mul x (squared mul j (get_or dual k 0))) (squared-add R j d (2 ^ k)))
+      sum_cong 8 (λ k l. ap (λ x. mul x (squared mul j (get_or dual k 0))) (squared-add R j d (2 ^ k)))
       ∙ raise j (λ k. squared mul d (2 ^ k)) (λ k. get_or dual k 0)
       ∙ ap (squared mul j) (same_at 8 (λ d. sum 8 (λ k. mul (squared mul d (2 ^ k)) (get_or dual k 0))) (λ d. delta d 0)
       P.lower d h)
@@ -109,21 +109,21 @@ module _ {mul : ℕ → ℕ → ℕ} (R : Ring (over mul)) {dual : List ℕ} (P 
           let q : j + (i - j) ≡ i = omega arith in
           ap (λ x. gather x j) p ∙ beneath j (i - j) (omega arith) ∙ ap (λ x. delta x j) q
 
-  dual-laws : Dual mul dual
+  dual_laws : Dual mul dual
   unfolding gather
-  dual-laws = record { picks = picks; gathers = gathers }
+  dual_laws = record { picks = picks; gathers = gathers }
 
 -- ---- the two fields
 
-tested-27 : Tested (times 27) (dualOf 27)
-unfolding times shifted double ◌⊕◌ sum dualOf trace
+tested-27 : Tested (times 27) (dual_of 27)
+unfolding times shifted double ◌⊕◌ sum dual_of trace
 tested-27 = record { picks = tt; upper = tt; lower = tt }
 
-tested-29 : Tested (times 29) (dualOf 29)
-unfolding times shifted double ◌⊕◌ sum dualOf trace
+tested-29 : Tested (times 29) (dual_of 29)
+unfolding times shifted double ◌⊕◌ sum dual_of trace
 tested-29 = record { picks = tt; upper = tt; lower = tt }
 
 -- the dual bytes of each modulus do what they are for
-pub duals : {m : ℕ} → Modulus m → Dual (times m) (dualOf m)
-duals aes = dual-laws (ring 27 (lit< tt)) tested-27
-duals seal = dual-laws (ring 29 (lit< tt)) tested-29
+pub duals : {m : ℕ} → Modulus m → Dual (times m) (dual_of m)
+duals aes = dual_laws (ring 27 (lit< tt)) tested-27
+duals seal = dual_laws (ring 29 (lit< tt)) tested-29

@@ -8,9 +8,9 @@ use Rattle.field.proofs.Laws.Powers.{power-squared, fermat, factor-zero}
 use Rattle.field.proofs.Laws.Modulus.{periodic}
 
 -- the one record of laws, for either modulus
-pub gf-laws : {m : ℕ} → Modulus m → Laws (gf m)
-gf-laws M = record {
+pub gf_laws : {m : ℕ} → Modulus m → Laws (gf m)
+gf_laws M = record {
   ring = (periodic M).ring;
   no_zero = factor-zero (periodic M);
-  eight-squares = λ a h. sym (power-squared (periodic M).ring 8 a h) ∙ fermat (periodic M) a h;
+  eight_squares = λ a h. sym (power-squared (periodic M).ring 8 a h) ∙ fermat (periodic M) a h;
 }

@@ -6,7 +6,7 @@ use native.Mathlib.Nat.{mod-lt, div-lt_iff_lt-mul, zero-mul, one-mul, pow-suc, l
 use lib.Arith.{lt-one}
 use lib.Pow.{pow_pos, split}
 use Rattle.field.specs.Xor.{◌⊕◌}
-use Rattle.field.proofs.Laws.Xor.{⊕-self, zero-⊕, ⊕-split, bit-cases}
+use Rattle.field.proofs.Laws.Xor.{⊕_self, zero-⊕, ⊕-split, bit_cases}
 
 -- it takes sums to sums, and reads the low byte only
 pub record Linear (f : ℕ → ℕ) : Type 0 where
@@ -15,7 +15,7 @@ pub record Linear (f : ℕ → ℕ) : Type 0 where
 
 -- what takes sums to sums takes 0 to 0
 pub at_zero : (f : ℕ → ℕ) → ((a b : ℕ) → f (a ⊕ b) ≡ f a ⊕ f b) → f 0 ≡ 0
-at_zero f s = ap f (sym (zero-⊕ 0)) ∙ s 0 0 ∙ ⊕-self (f 0)
+at_zero f s = ap f (sym (zero-⊕ 0)) ∙ s 0 0 ∙ ⊕_self (f 0)
 
 -- a number is its digits above k and its k low digits
 parts : (k a : ℕ) → a ≡ a / 2 ^ k * 2 ^ k ⊕ a % 2 ^ k
@@ -24,7 +24,7 @@ parts k a = sym (split a k) ∙ sym (⊕-split (a / 2 ^ k) k (a % 2 ^ k) (mod-lt
 module _ (f g : ℕ → ℕ) (sf : (a b : ℕ) → f (a ⊕ b) ≡ f a ⊕ f b) (sg : (a b : ℕ) → g (a ⊕ b) ≡ g a ⊕ g b) where
   top : (k : ℕ) → f (2 ^ k) ≡ g (2 ^ k) → (q : ℕ) → q < 2 → f (q * 2 ^ k) ≡ g (q * 2 ^ k)
   top k e =
-      bit-cases (λ (q : ℕ). f (q * 2 ^ k) ≡ g (q * 2 ^ k))
+      bit_cases (λ (q : ℕ). f (q * 2 ^ k) ≡ g (q * 2 ^ k))
       (ap f (zero-mul (2 ^ k)) ∙ at_zero f sf ∙ sym (at_zero g sg) ∙ ap g (sym (zero-mul (2 ^ k))))
       (ap f (one-mul (2 ^ k)) ∙ e ∙ ap g (sym (one-mul (2 ^ k))))
 

@@ -10,11 +10,11 @@ use Rattle.field.specs.Xor.{◌⊕◌}
 use Rattle.field.specs.Field.{Modulus, double, shifted, times, power, squared}
 use Rattle.field.specs.Field.Modulus.{aes, seal}
 use Rattle.field.specs.Laws.{Ring, Periodic, over}
-use Rattle.field.proofs.Laws.Xor.{bit-cases}
+use Rattle.field.proofs.Laws.Xor.{bit_cases}
 use Rattle.field.proofs.Laws.Computed.{each, each_at, same_at}
 use Rattle.field.proofs.Laws.Linear.{agree-byte}
 use Rattle.field.proofs.Laws.Ring.{ring}
-use Rattle.field.proofs.Laws.Algebra.{mul-zero, pow-byte, pow-add}
+use Rattle.field.proofs.Laws.Algebra.{mul-zero, pow_byte, pow_add}
 use Rattle.field.proofs.Laws.Powers.{power-suc, power-squared, squared-spread}
 
 abbrev implies : Bool → Bool → Bool
@@ -42,16 +42,16 @@ module _ {mul : ℕ → ℕ → ℕ} (R : Ring (over mul)) (P : Tested mul) wher
       (each_at 256 (idempotent mul) P.idempotents e h))
 
   period : (a : ℕ) → a < 256 → (a ≡ 0 → ⊥) → power mul a 255 ≡ 1
-  period a h n = go (power mul a 255) (own_square (power mul a 255) (pow-byte R a 255) square) refl
+  period a h n = go (power mul a 255) (own_square (power mul a 255) (pow_byte R a 255) square) refl
     where
       square : mul (power mul a 255) (power mul a 255) ≡ power mul a 255
       square =
-          sym (pow-add R a 255 255) ∙ pow-add R a 254 256 ∙ ap (mul (power mul a 254)) (fermat a h)
+          sym (pow_add R a 255 255) ∙ pow_add R a 254 256 ∙ ap (mul (power mul a 254)) (fermat a h)
           ∙ R.mul_comm (power mul a 254) a ∙ sym (power-suc mul a 254)
 
       go : (e : ℕ) → e < 2 → power mul a 255 ≡ e → power mul a 255 ≡ 1
       go =
-          bit-cases (λ e. power mul a 255 ≡ e → power mul a 255 ≡ 1)
+          bit_cases (λ e. power mul a 255 ≡ e → power mul a 255 ≡ 1)
           (λ q. absurd (n (sym (fermat a h) ∙ power-suc mul a 255 ∙ ap (mul a) q ∙ mul-zero R a))) (λ q. q)
 
   field : Periodic mul
@@ -68,9 +68,9 @@ unfolding times shifted double ◌⊕◌
 tested-29 = record { roots = tt; idempotents = tt }
 
 -- the low byte of a modulus is a byte
-pub modulus-lt : {m : ℕ} → Modulus m → m < 256
-modulus-lt aes = lit< tt
-modulus-lt seal = lit< tt
+pub modulus_lt : {m : ℕ} → Modulus m → m < 256
+modulus_lt aes = lit< tt
+modulus_lt seal = lit< tt
 
 -- both moduli give a field
 pub periodic : {m : ℕ} → Modulus m → Periodic (times m)

@@ -9,13 +9,13 @@ use lib.ListN.{get_or}
 use lib.Pow.{pow-lt, pow_pos}
 use Rattle.field.specs.Xor.{◌⊕◌}
 use Rattle.field.specs.Field.{Modulus, times}
-use Rattle.field.specs.Maps.{list_of, linear, affine, series, columnsOf, coefficientsOf, Bytes8}
-use Rattle.field.proofs.Laws.Xor.{⊕-cancel, ⊕-zero, ⊕-assoc, ⊕-comm, ⊕-left-comm, ⊕-mod, ⊕-shr}
+use Rattle.field.specs.Maps.{list_of, linear, affine, series, columns_of, coefficients_of, Bytes8}
+use Rattle.field.proofs.Laws.Xor.{⊕_cancel, ⊕-zero, ⊕-assoc, ⊕-comm, ⊕-left-comm, ⊕_mod, ⊕_shr}
 use Rattle.field.proofs.Laws.Linear.{agree-byte, at_zero}
 use Rattle.field.proofs.Laws.Product.{bit-spread}
-use Rattle.field.proofs.Laws.Sums.{sum-cong, sum-spread, getD-listOf, length-listOf}
-use Rattle.field.proofs.Laws.Maps.{represents, only, coefficients-bytes, columns-of-coefficients}
-use Rattle.field.proofs.Laws.Maps.{coefficients-of-columns, series-lt, series-spread, linear-at}
+use Rattle.field.proofs.Laws.Sums.{sum_cong, sum-spread, get_d_list_of, length-list_of}
+use Rattle.field.proofs.Laws.Maps.{represents, only, coefficients-bytes, columns_of-coefficients}
+use Rattle.field.proofs.Laws.Maps.{coefficients_of-columns, series_lt, series-spread, linear-at}
 use Rattle.field.proofs.Laws.Modulus.{periodic}
 use Rattle.field.proofs.Laws.Duals.{duals}
 
@@ -25,7 +25,7 @@ use Rattle.field.proofs.Laws.Duals.{duals}
 pub linear-spread : (columns : List ℕ) (x y : ℕ) → linear columns (x ⊕ y) ≡ linear columns x ⊕ linear columns y
 unfolding linear
 linear-spread columns x y =
-    sum-cong 8 (λ i h. ap (λ (z : ℕ). z % 2 * get_or columns i 0) (⊕-shr i x y)
+    sum_cong 8 (λ i h. ap (λ (z : ℕ). z % 2 * get_or columns i 0) (⊕_shr i x y)
     ∙ bit-spread (get_or columns i 0) (x / 2 ^ i) (y / 2 ^ i))
     ∙ sum-spread 8 (λ i. x / 2 ^ i % 2 * get_or columns i 0) (λ i. y / 2 ^ i % 2 * get_or columns i 0)
 
@@ -34,7 +34,7 @@ pub affine-spread : (c : ℕ) (columns : List ℕ) (x y : ℕ)
     → affine c columns (x ⊕ y) ≡ affine c columns x ⊕ affine c columns y ⊕ c
 unfolding affine
 affine-spread c columns x y =
-    ap (λ z. c ⊕ z) (linear-spread columns x y) ∙ simp (⊕-assoc, ⊕-left-comm, ⊕-comm, ⊕-cancel)
+    ap (λ z. c ⊕ z) (linear-spread columns x y) ∙ simp (⊕-assoc, ⊕-left-comm, ⊕-comm, ⊕_cancel)
 
 -- f(0) = c
 pub affine-zero : (c : ℕ) (columns : List ℕ) → affine c columns 0 ≡ c
@@ -45,35 +45,35 @@ affine-zero c columns = ap (λ z. c ⊕ z) (at_zero (linear columns) (linear-spr
 
 module _ {m : ℕ} (M : Modulus m) where
   -- the coefficients are eight bytes
-  pub coefficientsOf-bytes : (columns : List ℕ) → Bytes8 (coefficientsOf m columns)
-  unfolding coefficientsOf
-  coefficientsOf-bytes = coefficients-bytes (periodic M).ring (duals M)
+  pub coefficients_of-bytes : (columns : List ℕ) → Bytes8 (coefficients_of m columns)
+  unfolding coefficients_of
+  coefficients_of-bytes = coefficients-bytes (periodic M).ring (duals M)
 
   -- the coefficients represent the map at every byte: f(x) = c + the sum of l_j·x^(2^j)
-  pub coefficients-represent : (c : ℕ) (columns : List ℕ) → Bytes8 columns → (x : ℕ) → x < 256
-      → affine c columns x ≡ c ⊕ series (times m) (coefficientsOf m columns) x
-  unfolding affine coefficientsOf
-  coefficients-represent c columns B x h = ap (λ z. c ⊕ z) (sym (represents (periodic M).ring (duals M) columns B x h))
+  pub coefficients_represent : (c : ℕ) (columns : List ℕ) → Bytes8 columns → (x : ℕ) → x < 256
+      → affine c columns x ≡ c ⊕ series (times m) (coefficients_of m columns) x
+  unfolding affine coefficients_of
+  coefficients_represent c columns B x h = ap (λ z. c ⊕ z) (sym (represents (periodic M).ring (duals M) columns B x h))
 
   -- and no other list of eight bytes does
   pub coefficients-only : (c : ℕ) (columns l : List ℕ) → Bytes8 columns → Bytes8 l
-      → ((x : ℕ) → x < 256 → affine c columns x ≡ c ⊕ series (times m) l x) → l ≡ coefficientsOf m columns
-  unfolding affine coefficientsOf
+      → ((x : ℕ) → x < 256 → affine c columns x ≡ c ⊕ series (times m) l x) → l ≡ coefficients_of m columns
+  unfolding affine coefficients_of
   coefficients-only c columns l C B h =
-      only (periodic M).ring (duals M) columns l C B (λ x hx. sym (⊕-cancel c (series (times m) l x))
-      ∙ ap (λ z. c ⊕ z) (sym (h x hx)) ∙ ⊕-cancel c (linear columns x))
+      only (periodic M).ring (duals M) columns l C B (λ x hx. sym (⊕_cancel c (series (times m) l x))
+      ∙ ap (λ z. c ⊕ z) (sym (h x hx)) ∙ ⊕_cancel c (linear columns x))
 
   -- ---- pairing: coefficients and columns
 
   -- columns to coefficients and back
-  pub columns-back : (columns : List ℕ) → Bytes8 columns → columnsOf (times m) (coefficientsOf m columns) ≡ columns
-  unfolding coefficientsOf
-  columns-back = columns-of-coefficients (periodic M).ring (duals M)
+  pub columns-back : (columns : List ℕ) → Bytes8 columns → columns_of (times m) (coefficients_of m columns) ≡ columns
+  unfolding coefficients_of
+  columns-back = columns_of-coefficients (periodic M).ring (duals M)
 
   -- coefficients to columns and back
-  pub coefficients-back : (l : List ℕ) → Bytes8 l → coefficientsOf m (columnsOf (times m) l) ≡ l
-  unfolding coefficientsOf
-  coefficients-back = coefficients-of-columns (periodic M).ring (duals M)
+  pub coefficients-back : (l : List ℕ) → Bytes8 l → coefficients_of m (columns_of (times m) l) ≡ l
+  unfolding coefficients_of
+  coefficients-back = coefficients_of-columns (periodic M).ring (duals M)
 
 -- ---- pairing: coefficients and linear maps as functions on bytes
 
@@ -83,15 +83,15 @@ pub record LinearMap (f : ℕ → ℕ) : Type 0 where
   pub spread : (x y : ℕ) → x < 256 → y < 256 → f (x ⊕ y) ≡ f x ⊕ f y
 
 -- a linear map is the one with its values at 1, 2, 4, .. 128 for columns
-pub columnsAt : (ℕ → ℕ) → List ℕ
-columnsAt f = list_of 8 (λ i. f (2 ^ i))
+pub columns_at : (ℕ → ℕ) → List ℕ
+columns_at f = list_of 8 (λ i. f (2 ^ i))
 
 -- its columns are eight bytes
-pub columnsAt-bytes : {f : ℕ → ℕ} → LinearMap f → Bytes8 (columnsAt f)
-unfolding columnsAt
-columnsAt-bytes {f} F = record {
-  eight = length-listOf 8 (λ i. f (2 ^ i));
-  byte = λ i h. subst (λ (x : ℕ). x < 256) (sym (getD-listOf 8 (λ i. f (2 ^ i)) 0 i h)) (F.byte (2 ^ i) (pow-lt h));
+pub columns_at-bytes : {f : ℕ → ℕ} → LinearMap f → Bytes8 (columns_at f)
+unfolding columns_at
+columns_at-bytes {f} F = record {
+  eight = length-list_of 8 (λ i. f (2 ^ i));
+  byte = λ i h. subst (λ (x : ℕ). x < 256) (sym (get_d_list_of 8 (λ i. f (2 ^ i)) 0 i h)) (F.byte (2 ^ i) (pow-lt h));
 }
 
 low : (x : ℕ) → x % 256 < 256
@@ -99,35 +99,35 @@ low x = mod-lt x (pow_pos 8)
 
 module _ {m : ℕ} (M : Modulus m) where
   -- it is the map with its own columns
-  pub linear-columns : (f : ℕ → ℕ) → LinearMap f → (x : ℕ) → x < 256 → linear (columnsAt f) x ≡ f x
-  unfolding columnsAt
+  pub linear-columns : (f : ℕ → ℕ) → LinearMap f → (x : ℕ) → x < 256 → linear (columns_at f) x ≡ f x
+  unfolding columns_at
   linear-columns f F x h =
-      agree-byte (linear (columnsAt f)) (λ x. f (x % 256)) (linear-spread (columnsAt f))
-      (λ a b. ap f (⊕-mod 8 a b) ∙ F.spread (a % 256) (b % 256) (low a) (low b))
-      (λ i hi. linear-at (periodic M).ring (columnsAt f) (columnsAt-bytes F) i hi
-      ∙ getD-listOf 8 (λ i. f (2 ^ i)) 0 i hi ∙ ap f (sym (mod-eq_of_lt (pow-lt hi))))
+      agree-byte (linear (columns_at f)) (λ x. f (x % 256)) (linear-spread (columns_at f))
+      (λ a b. ap f (⊕_mod 8 a b) ∙ F.spread (a % 256) (b % 256) (low a) (low b))
+      (λ i hi. linear-at (periodic M).ring (columns_at f) (columns_at-bytes F) i hi
+      ∙ get_d_list_of 8 (λ i. f (2 ^ i)) 0 i hi ∙ ap f (sym (mod-eq_of_lt (pow-lt hi))))
       x h
       ∙ ap f (mod-eq_of_lt h)
 
   -- every list of eight bytes is the coefficients of a linear map
   pub series-linear : (l : List ℕ) → LinearMap (series (times m) l)
   series-linear l = record {
-    byte = λ x h. series-lt (periodic M).ring l x;
+    byte = λ x h. series_lt (periodic M).ring l x;
     spread = series-spread
         (periodic M).ring l;
   }
 
   -- and every linear map has one
   pub map-coefficients : (f : ℕ → ℕ) → LinearMap f → (x : ℕ) → x < 256
-      → series (times m) (coefficientsOf m (columnsAt f)) x ≡ f x
-  unfolding coefficientsOf
-  map-coefficients f F x h = represents (periodic M).ring (duals M) (columnsAt f) (columnsAt-bytes F) x h
+      → series (times m) (coefficients_of m (columns_at f)) x ≡ f x
+  unfolding coefficients_of
+  map-coefficients f F x h = represents (periodic M).ring (duals M) (columns_at f) (columns_at-bytes F) x h
       ∙ linear-columns f F x h
 
   -- and no other
   pub map-only : (f : ℕ → ℕ) → LinearMap f → (l : List ℕ) → Bytes8 l → ((x : ℕ) → x < 256 → series (times m) l x ≡ f x)
-      → l ≡ coefficientsOf m (columnsAt f)
-  unfolding coefficientsOf
+      → l ≡ coefficients_of m (columns_at f)
+  unfolding coefficients_of
   map-only f F l B h =
-      only (periodic M).ring (duals M) (columnsAt f) l (columnsAt-bytes F) B (λ x hx. h x hx
+      only (periodic M).ring (duals M) (columns_at f) l (columns_at-bytes F) B (λ x hx. h x hx
       ∙ sym (linear-columns f F x hx))

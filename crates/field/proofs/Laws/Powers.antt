@@ -9,7 +9,7 @@ use lib.Dec.{lit<}
 use Rattle.field.specs.Xor.{◌⊕◌}
 use Rattle.field.specs.Field.{power, squared}
 use Rattle.field.specs.Laws.{Ring, Periodic, over}
-use Rattle.field.proofs.Laws.Algebra.{mul-zero, zero-mul, mul-one, mul-swap, square-add, pow-add}
+use Rattle.field.proofs.Laws.Algebra.{mul-zero, zero-mul, mul-one, mul_swap, square-add, pow_add}
 
 -- one power more
 pub power-suc : (mul : ℕ → ℕ → ℕ) (a e : ℕ) → power mul a (suc e) ≡ mul a (power mul a e)
@@ -27,7 +27,7 @@ module _ {mul : ℕ → ℕ → ℕ} (R : Ring (over mul)) where
   -- (a·b)^e = a^e·b^e
   pub power-mul : (a b e : ℕ) → power mul (mul a b) e ≡ mul (power mul a e) (power mul b e)
   power-mul a b zero = sym (R.one-mul 1 (lit< tt))
-  power-mul a b (suc e) = ap (mul (mul a b)) (power-mul a b e) ∙ mul-swap R a b (power mul a e) (power mul b e)
+  power-mul a b (suc e) = ap (mul (mul a b)) (power-mul a b e) ∙ mul_swap R a b (power mul a e) (power mul b e)
 
   -- a power of 0 above the zeroth is 0
   pub power_zero : (e : ℕ) → power mul 0 (suc e) ≡ 0
@@ -40,14 +40,14 @@ module _ {mul : ℕ → ℕ → ℕ} (R : Ring (over mul)) where
 
   -- (a·a)^e = a^(e+e)
   pub power-square : (a e : ℕ) → power mul (mul a a) e ≡ power mul a (e + e)
-  power-square a e = power-mul a a e ∙ sym (pow-add R a e e)
+  power-square a e = power-mul a a e ∙ sym (pow_add R a e e)
 
   -- (a^i)^j = a^(i·j)
   pub power-power : (a i j : ℕ) → power mul (power mul a i) j ≡ power mul a (i * j)
   power-power a i zero = ap (power mul a) (sym (nat-mul-zero i))
   power-power a i (suc j) =
       let e : i + i * j ≡ i * suc j = omega (arith, mul-suc i j) in
-      ap (mul (power mul a i)) (power-power a i j) ∙ sym (pow-add R a i (i * j)) ∙ ap (power mul a) e
+      ap (mul (power mul a i)) (power-power a i j) ∙ sym (pow_add R a i (i * j)) ∙ ap (power mul a) e
 
   -- ---- squares, and the powers of 2 that come of them
 
@@ -70,7 +70,7 @@ module _ {mul : ℕ → ℕ → ℕ} (R : Ring (over mul)) where
   -- and products to products
   pub squared-mul : (j a b : ℕ) → squared mul j (mul a b) ≡ mul (squared mul j a) (squared mul j b)
   squared-mul zero a b = refl
-  squared-mul (suc j) a b = ap (squared mul j) (mul-swap R a b a b) ∙ squared-mul j (mul a a) (mul b b)
+  squared-mul (suc j) a b = ap (squared mul j) (mul_swap R a b a b) ∙ squared-mul j (mul a a) (mul b b)
 
   -- squared j + i times is squared j times, then i times
   pub squared-add : (i j a : ℕ) → squared mul (j + i) a ≡ squared mul i (squared mul j a)
@@ -102,7 +102,7 @@ module _ {mul : ℕ → ℕ → ℕ} (L : Periodic mul) where
   pub power-drop : (a e : ℕ) → a < 256 → power mul a (suc e + 255) ≡ power mul a (suc e)
   power-drop a e h =
       let s : suc e + 255 ≡ e + 256 = omega arith in
-      ap (power mul a) s ∙ pow-add L.ring a e 256 ∙ ap (mul (power mul a e)) (fermat a h)
+      ap (power mul a) s ∙ pow_add L.ring a e 256 ∙ ap (mul (power mul a e)) (fermat a h)
       ∙ L.ring.mul_comm (power mul a e) a ∙ sym (power-suc mul a e)
 
   -- the 254th power is the inverse
@@ -110,8 +110,8 @@ module _ {mul : ℕ → ℕ → ℕ} (L : Periodic mul) where
   inverse a h n = sym (power-suc mul a 254) ∙ L.period a h n
 
   -- a factor other than 0 may be left out
-  pub mul-cancel : (a b c : ℕ) → a < 256 → b < 256 → c < 256 → (a ≡ 0 → ⊥) → mul a b ≡ mul a c → b ≡ c
-  mul-cancel a b c ha hb hc n e = sym (undo b hb) ∙ ap (mul (power mul a 254)) e ∙ undo c hc
+  pub mul_cancel : (a b c : ℕ) → a < 256 → b < 256 → c < 256 → (a ≡ 0 → ⊥) → mul a b ≡ mul a c → b ≡ c
+  mul_cancel a b c ha hb hc n e = sym (undo b hb) ∙ ap (mul (power mul a 254)) e ∙ undo c hc
     where
       undo : (x : ℕ) → x < 256 → mul (power mul a 254) (mul a x) ≡ x
       undo x hx =
@@ -120,4 +120,4 @@ module _ {mul : ℕ → ℕ → ℕ} (L : Periodic mul) where
 
   -- no zero divisors
   pub factor-zero : (a b : ℕ) → a < 256 → b < 256 → (a ≡ 0 → ⊥) → mul a b ≡ 0 → b ≡ 0
-  factor-zero a b ha hb n e = mul-cancel a b 0 ha hb (lit< tt) n (e ∙ sym (mul-zero L.ring a))
+  factor-zero a b ha hb n e = mul_cancel a b 0 ha hb (lit< tt) n (e ∙ sym (mul-zero L.ring a))

@@ -9,10 +9,10 @@ use lib.Pow.{pow-lt}
 use Rattle.field.specs.Xor.{◌⊕◌}
 use Rattle.field.specs.Field.{double, shifted, times}
 use Rattle.field.specs.Laws.{Ring, gf}
-use Rattle.field.proofs.Laws.Xor.{⊕-comm, ⊕-assoc, ⊕-self, ⊕-zero, zero-⊕, ⊕-lt, bit}
+use Rattle.field.proofs.Laws.Xor.{⊕-comm, ⊕-assoc, ⊕_self, ⊕-zero, zero-⊕, ⊕_lt, bit}
 use Rattle.field.proofs.Laws.Linear.{agree, after, at_zero}
-use Rattle.field.proofs.Laws.Product.{double-spread, double-lt, double-bit, shifted-right, times-left}
-use Rattle.field.proofs.Laws.Product.{times-right, times-lt, times-one}
+use Rattle.field.proofs.Laws.Product.{double-spread, double_lt, double-bit, shifted-right, times-left}
+use Rattle.field.proofs.Laws.Product.{times-right, times_lt, times-one}
 
 -- a doubled j times
 up : ℕ → ℕ → ℕ → ℕ
@@ -25,10 +25,10 @@ module _ (m : ℕ) where
   up_in zero a = refl
   up_in (suc j) a = ap (double m) (up_in j a)
 
-  up-swap : (i j a : ℕ) → up m i (up m j a) ≡ up m j (up m i a)
+  up_swap : (i j a : ℕ) → up m i (up m j a) ≡ up m j (up m i a)
   unfolding up
-  up-swap zero j a = refl
-  up-swap (suc i) j a = ap (double m) (up-swap i j a) ∙ sym (up_in j (up m i a))
+  up_swap zero j a = refl
+  up_swap (suc i) j a = ap (double m) (up_swap i j a) ∙ sym (up_in j (up m i a))
 
   -- 1 doubled i times
   up_one : (i : ℕ) → i < 8 → up m i 1 ≡ 2 ^ i
@@ -77,7 +77,7 @@ module _ (m : ℕ) where
     up_lt : (j a : ℕ) → a < 256 → up m j a < 256
     unfolding up
     up_lt zero a h = h
-    up_lt (suc j) a h = double-lt m (up m j a) hm
+    up_lt (suc j) a h = double_lt m (up m j a) hm
 
     times-up : (j a b : ℕ) → a < 256 → times m (up m j a) b ≡ up m j (times m a b)
     unfolding times
@@ -92,7 +92,7 @@ module _ (m : ℕ) where
       where
         at-powers : (i j : ℕ) → i < 8 → j < 8 → times m (2 ^ i) (2 ^ j) ≡ times m (2 ^ j) (2 ^ i)
         at-powers i j hi hj =
-            times_power j (2 ^ i) hj (pow-lt hi) ∙ ap (up m j) (sym (up_one i hi)) ∙ up-swap j i 1
+            times_power j (2 ^ i) hj (pow-lt hi) ∙ ap (up m j) (sym (up_one i hi)) ∙ up_swap j i 1
             ∙ ap (up m i) (up_one j hj)
             ∙ sym (times_power i (2 ^ j) hi (pow-lt hj))
 
@@ -105,19 +105,19 @@ module _ (m : ℕ) where
         at-powers : (j k : ℕ) → j < 8 → k < 8 → times m (times m a (2 ^ j)) (2 ^ k) ≡ times m a
             (times m (2 ^ j) (2 ^ k))
         at-powers j k hj hk =
-            times_power k (times m a (2 ^ j)) hk (times-lt m a (2 ^ j) hm) ∙ ap (up m k) (comm a (2 ^ j))
+            times_power k (times m a (2 ^ j)) hk (times_lt m a (2 ^ j) hm) ∙ ap (up m k) (comm a (2 ^ j))
             ∙ sym (times-up k (2 ^ j) a (pow-lt hj)) ∙ comm (up m k (2 ^ j)) a
             ∙ ap (times m a) (sym (times_power k (2 ^ j) hk (pow-lt hj)))
 
     -- the bytes are a commutative ring over every modulus
     pub ring : Ring (gf m)
     ring = record {
-      add-byte = λ h k. ⊕-lt 8 h k;
+      add-byte = λ h k. ⊕_lt 8 h k;
       add_comm = ⊕-comm;
       add_assoc = ⊕-assoc;
       add-zero = ⊕-zero;
-      add-self = ⊕-self;
-      mul-byte = λ a b. times-lt m a b hm;
+      add_self = ⊕_self;
+      mul-byte = λ a b. times_lt m a b hm;
       mul_comm = comm;
       mul_assoc = assoc;
       distrib = λ a. (times-right m a).spread;

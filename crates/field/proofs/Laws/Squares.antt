@@ -8,12 +8,12 @@ use lib.Dec.{T, eqb}
 use lib.ListN.{get_or}
 use Rattle.field.specs.Xor.{◌⊕◌}
 use Rattle.field.specs.Field.{double, shifted, times, squared}
-use Rattle.field.specs.Maps.{dualOf}
+use Rattle.field.specs.Maps.{dual_of}
 use Rattle.field.proofs.Laws.Computed.{each, same_at}
 
 -- eight dual bytes, then their squares, and so on
-abbrev pub squaredDuals : List (List ℕ)
-squaredDuals =
+abbrev pub squared_duals : List (List ℕ)
+squared_duals =
     (41 ∷ 176 ∷ 88 ∷ 5 ∷ 166 ∷ 83 ∷ 164 ∷ 82 ∷ []) ∷
     (45 ∷ 237 ∷ 240 ∷ 17 ∷ 226 ∷ 181 ∷ 230 ∷ 180 ∷ []) ∷
     (61 ∷ 12 ∷ 70 ∷ 26 ∷ 89 ∷ 252 ∷ 73 ∷ 253 ∷ []) ∷
@@ -24,21 +24,21 @@ squaredDuals =
     (43 ∷ 80 ∷ 227 ∷ 3 ∷ 172 ∷ 247 ∷ 86 ∷ 246 ∷ []) ∷ []
 
 raised : ℕ → ℕ
-raised k = squared (times 27) (k / 8) (get_or (dualOf 27) (k % 8) 0)
+raised k = squared (times 27) (k / 8) (get_or (dual_of 27) (k % 8) 0)
 
-tested : T (each 64 (λ k. eqb (get_or (get_or squaredDuals (k / 8) []) (k % 8) 0) (raised k)))
-unfolding raised times shifted double ◌⊕◌ dualOf
+tested : T (each 64 (λ k. eqb (get_or (get_or squared_duals (k / 8) []) (k % 8) 0) (raised k)))
+unfolding raised times shifted double ◌⊕◌ dual_of
 tested = tt
 
 -- entry i of row j is dual byte i squared j times
-pub squared-dual : (m i j : ℕ) → m ≡ 27 → i < 8 → j < 8
-    → get_or (get_or squaredDuals j []) i 0 ≡ squared (times m) j (get_or (dualOf m) i 0)
+pub squared_dual : (m i j : ℕ) → m ≡ 27 → i < 8 → j < 8
+    → get_or (get_or squared_duals j []) i 0 ≡ squared (times m) j (get_or (dual_of m) i 0)
 unfolding raised
-squared-dual m i j e h l =
+squared_dual m i j e h l =
     let k : j * 8 + i < 64 = omega arith in
     let q : (j * 8 + i) / 8 ≡ j = omega arith in
     let r : (j * 8 + i) % 8 ≡ i = omega arith in
-    sym (ap₂ (λ (x y : ℕ). get_or (get_or squaredDuals x []) y 0) q r)
-    ∙ same_at 64 (λ n. get_or (get_or squaredDuals (n / 8) []) (n % 8) 0) raised tested (j * 8 + i) k
-    ∙ ap₂ (λ (x y : ℕ). squared (times 27) x (get_or (dualOf 27) y 0)) q r
-    ∙ ap (λ (x : ℕ). squared (times x) j (get_or (dualOf x) i 0)) (sym e)
+    sym (ap₂ (λ (x y : ℕ). get_or (get_or squared_duals x []) y 0) q r)
+    ∙ same_at 64 (λ n. get_or (get_or squared_duals (n / 8) []) (n % 8) 0) raised tested (j * 8 + i) k
+    ∙ ap₂ (λ (x y : ℕ). squared (times 27) x (get_or (dual_of 27) y 0)) q r
+    ∙ ap (λ (x : ℕ). squared (times x) j (get_or (dual_of x) i 0)) (sym e)

@@ -11,7 +11,7 @@ use lib.ListN.{get_or}
 use lib.Pow.{shr-shr}
 use Rattle.field.specs.Xor.{◌⊕◌}
 use Rattle.field.specs.Field.{double, shifted, times, power, squared}
-use Rattle.field.specs.Maps.{sum, dualOf}
+use Rattle.field.specs.Maps.{sum, dual_of}
 use Rattle.field.proofs.Laws.Xor.{⊕-assoc, ⊕-left-comm, zero-⊕}
 use Rattle.field.proofs.Laws.Ring.{ring}
 use Rattle.field.proofs.Laws.Powers.{power-suc, power-square}
@@ -51,9 +51,9 @@ module _ (m : ℕ) where
       ∙ ap (λ z. sum ⊕ z) (sym (next n x y h))
 
   -- and where it is not
-  pub bit-clear : (n sum x y : ℕ) → 0 < n → (y % 2 ≡ 1 → ⊥)
+  pub bit_clear : (n sum x y : ℕ) → 0 < n → (y % 2 ≡ 1 → ⊥)
       → sum ⊕ shifted m (n - 1) (double m x) (y / 2) ≡ sum ⊕ shifted m n x y
-  bit-clear n sum x y h p =
+  bit_clear n sum x y h p =
       let q : y % 2 ≡ 0 = omega arith in
       ap (λ z. sum ⊕ z) (sym (next n x y h ∙ ap (λ (b : ℕ). b * x ⊕ shifted m (n - 1) (double m x) (y / 2)) q
       ∙ ap (λ (b : ℕ). b ⊕ shifted m (n - 1) (double m x) (y / 2)) (zero-mul x)
@@ -72,9 +72,9 @@ module _ (m : ℕ) (hm : m < 256) where
       ∙ sym (power-suc (times m) x (n / 2 + n / 2)) ∙ ap (power (times m) x) q)
 
   -- and where it is even
-  pub power-even : (r x n : ℕ) → (n % 2 ≡ 1 → ⊥) → times m r (power (times m) (times m x x) (n / 2)) ≡ times m r
+  pub power_even : (r x n : ℕ) → (n % 2 ≡ 1 → ⊥) → times m r (power (times m) (times m x x) (n / 2)) ≡ times m r
       (power (times m) x n)
-  power-even r x n p =
+  power_even r x n p =
       let q : n / 2 + n / 2 ≡ n = omega arith in
       ap (times m r) (power-square (ring m hm) x (n / 2) ∙ ap (power (times m) x) q)
 
@@ -104,8 +104,8 @@ module _ (c : ℕ) (columns : List ℕ) (s x y i : ℕ) (here : y ≡ x / 2 ^ i)
       ∙ ap (λ z. c ⊕ z) (sym (sum-next i (part columns x)))
 
   -- and where it is not
-  pub column-clear : (y % 2 ≡ 1 → ⊥) → s ≡ c ⊕ sum (i + 1) (part columns x)
-  column-clear p =
+  pub column_clear : (y % 2 ≡ 1 → ⊥) → s ≡ c ⊕ sum (i + 1) (part columns x)
+  column_clear p =
       let q : y % 2 ≡ 0 = omega arith in
       so_far ∙ ap (λ z. c ⊕ z)
       (sym (sum-next i (part columns x)
@@ -126,4 +126,4 @@ squared-next mul (suc n) x h =
 
 -- one column's term of coefficient j
 abbrev pub term : ℕ → List ℕ → ℕ → ℕ → ℕ
-term m columns j i = times m (get_or columns i 0) (squared (times m) j (get_or (dualOf m) i 0))
+term m columns j i = times m (get_or columns i 0) (squared (times m) j (get_or (dual_of m) i 0))

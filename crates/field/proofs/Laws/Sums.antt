@@ -14,17 +14,17 @@ use lib.Seq.{ext_get_or, get_or-set_same, get_or-set_other}
 use Rattle.field.specs.Xor.{◌⊕◌}
 use Rattle.field.specs.Laws.{Ring, over}
 use Rattle.field.specs.Maps.{sum, list_of}
-use Rattle.field.proofs.Laws.Xor.{⊕-self, ⊕-swap, ⊕-left-comm, ⊕-zero, zero-⊕, ⊕-lt}
+use Rattle.field.proofs.Laws.Xor.{⊕_self, ⊕_swap, ⊕-left-comm, ⊕-zero, zero-⊕, ⊕_lt}
 use Rattle.field.proofs.Laws.Algebra.{mul-zero, mul-one}
 
 below : {i n : ℕ} → i < n → i < suc n
 below {n = n} h = lt_trans h (le_refl (suc n))
 
 -- equal terms give equal sums
-pub sum-cong : (n : ℕ) {f g : ℕ → ℕ} → ((i : ℕ) → i < n → f i ≡ g i) → sum n f ≡ sum n g
+pub sum_cong : (n : ℕ) {f g : ℕ → ℕ} → ((i : ℕ) → i < n → f i ≡ g i) → sum n f ≡ sum n g
 unfolding sum
-sum-cong zero h = refl
-sum-cong (suc n) h = ap₂ ◌⊕◌ (h n (le_refl (suc n))) (sum-cong n (λ i l. h i (below l)))
+sum_cong zero h = refl
+sum_cong (suc n) h = ap₂ ◌⊕◌ (h n (le_refl (suc n))) (sum_cong n (λ i l. h i (below l)))
 
 -- a sum of zeros is 0
 pub sum-zero : (n : ℕ) → sum n (λ i. 0) ≡ 0
@@ -35,20 +35,20 @@ sum-zero (suc n) = zero-⊕ (sum n (λ i. 0)) ∙ sum-zero n
 -- a sum of sums
 pub sum-spread : (n : ℕ) (f g : ℕ → ℕ) → sum n (λ i. f i ⊕ g i) ≡ sum n f ⊕ sum n g
 unfolding sum
-sum-spread zero f g = sym (⊕-self 0)
-sum-spread (suc n) f g = ap (λ x. f n ⊕ g n ⊕ x) (sum-spread n f g) ∙ ⊕-swap (f n) (g n) (sum n f) (sum n g)
+sum-spread zero f g = sym (⊕_self 0)
+sum-spread (suc n) f g = ap (λ x. f n ⊕ g n ⊕ x) (sum-spread n f g) ∙ ⊕_swap (f n) (g n) (sum n f) (sum n g)
 
 -- a double sum in either order
-pub sum-swap : (n k : ℕ) (f : ℕ → ℕ → ℕ) → sum n (λ i. sum k (f i)) ≡ sum k (λ j. sum n (λ i. f i j))
+pub sum_swap : (n k : ℕ) (f : ℕ → ℕ → ℕ) → sum n (λ i. sum k (f i)) ≡ sum k (λ j. sum n (λ i. f i j))
 unfolding sum
-sum-swap zero k f = sym (sum-zero k)
-sum-swap (suc n) k f = ap (λ x. sum k (f n) ⊕ x) (sum-swap n k f) ∙ sym (sum-spread k (f n) (λ j. sum n (λ i. f i j)))
+sum_swap zero k f = sym (sum-zero k)
+sum_swap (suc n) k f = ap (λ x. sum k (f n) ⊕ x) (sum_swap n k f) ∙ sym (sum-spread k (f n) (λ j. sum n (λ i. f i j)))
 
 -- a function that takes sums to sums
 pub sum-map : (h : ℕ → ℕ) → ((a b : ℕ) → h (a ⊕ b) ≡ h a ⊕ h b) → (n : ℕ) (f : ℕ → ℕ)
     → h (sum n f) ≡ sum n (λ i. h (f i))
 unfolding sum
-sum-map h s zero f = ap h (sym (⊕-self 0)) ∙ s 0 0 ∙ ⊕-self (h 0)
+sum-map h s zero f = ap h (sym (⊕_self 0)) ∙ s 0 0 ∙ ⊕_self (h 0)
 sum-map h s (suc n) f = s (f n) (sum n f) ∙ ap (λ x. h (f n) ⊕ x) (sum-map h s n f)
 
 -- the first term apart
@@ -61,7 +61,7 @@ sum_first (suc n) f = ap (λ x. f (suc n) ⊕ x) (sum_first n f) ∙ ⊕-left-co
 pub sum_lt : (n : ℕ) (f : ℕ → ℕ) → ((i : ℕ) → i < n → f i < 256) → sum n f < 256
 unfolding sum
 sum_lt zero f h = lit< tt
-sum_lt (suc n) f h = ⊕-lt 8 (h n (le_refl (suc n))) (sum_lt n f (λ i l. h i (below l)))
+sum_lt (suc n) f h = ⊕_lt 8 (h n (le_refl (suc n))) (sum_lt n f (λ i l. h i (below l)))
 
 -- ---- one at its own place, zero at the others
 
@@ -73,9 +73,9 @@ delta (suc i) zero = 0
 delta (suc i) (suc k) = delta i k
 
 -- at its own place
-pub delta-self : (i : ℕ) → delta i i ≡ 1
-delta-self zero = refl
-delta-self (suc i) = delta-self i
+pub delta_self : (i : ℕ) → delta i i ≡ 1
+delta_self zero = refl
+delta_self (suc i) = delta_self i
 
 -- at another place
 pub delta-other : (i k : ℕ) → (i ≡ k → ⊥) → delta i k ≡ 0
@@ -93,10 +93,10 @@ module _ {mul : ℕ → ℕ → ℕ} (R : Ring (over mul)) where
 
   -- on the other side too
   pub sum-mul : (n a : ℕ) (f : ℕ → ℕ) → mul (sum n f) a ≡ sum n (λ i. mul (f i) a)
-  sum-mul n a f = R.mul_comm (sum n f) a ∙ mul-sum n a f ∙ sum-cong n (λ i l. R.mul_comm a (f i))
+  sum-mul n a f = R.mul_comm (sum n f) a ∙ mul-sum n a f ∙ sum_cong n (λ i l. R.mul_comm a (f i))
 
   none : (n j : ℕ) (f : ℕ → ℕ) → ((i : ℕ) → i < n → i ≡ j → ⊥) → sum n (λ i. mul (f i) (delta i j)) ≡ 0
-  none n j f h = sum-cong n (λ i l. ap (mul (f i)) (delta-other i j (h i l)) ∙ mul-zero R (f i)) ∙ sum-zero n
+  none n j f h = sum_cong n (λ i l. ap (mul (f i)) (delta-other i j (h i l)) ∙ mul-zero R (f i)) ∙ sum-zero n
 
   -- the sum has one term that counts
   pub sum-pick : (n j : ℕ) (f : ℕ → ℕ) → j < n → f j < 256 → sum n (λ i. mul (f i) (delta i j)) ≡ f j
@@ -107,7 +107,7 @@ module _ {mul : ℕ → ℕ → ℕ} (R : Ring (over mul)) where
       go : Dec (j ≡ n) → (j < n → sum n (λ i. mul (f i) (delta i j)) ≡ f j)
           → sum (suc n) (λ i. mul (f i) (delta i j)) ≡ f j
       go (yes e) ih =
-          ap₂ ◌⊕◌ (ap (λ i. mul (f i) (delta i j)) (sym e) ∙ ap (mul (f j)) (delta-self j) ∙ mul-one R (f j) b)
+          ap₂ ◌⊕◌ (ap (λ i. mul (f i) (delta i j)) (sym e) ∙ ap (mul (f j)) (delta_self j) ∙ mul-one R (f j) b)
           (none n j f (λ i l p. omega arith))
           ∙ ⊕-zero (f j)
       go (no e) ih =
@@ -119,23 +119,23 @@ module _ {mul : ℕ → ℕ → ℕ} (R : Ring (over mul)) where
 
 module _ {A : Type 0} where
   -- a list of n values has n entries
-  pub length-listOf : (n : ℕ) (f : ℕ → A) → length (list_of n f) ≡ n
+  pub length-list_of : (n : ℕ) (f : ℕ → A) → length (list_of n f) ≡ n
   unfolding list_of
-  length-listOf zero f = refl
-  length-listOf (suc n) f = ap suc (length-listOf n (λ i. f (suc i)))
+  length-list_of zero f = refl
+  length-list_of (suc n) f = ap suc (length-list_of n (λ i. f (suc i)))
 
   -- each entry is its value
-  pub getD-listOf : (n : ℕ) (f : ℕ → A) (d : A) (i : ℕ) → i < n → get_or (list_of n f) i d ≡ f i
+  pub get_d_list_of : (n : ℕ) (f : ℕ → A) (d : A) (i : ℕ) → i < n → get_or (list_of n f) i d ≡ f i
   unfolding list_of
-  getD-listOf zero f d i h = absurd (not-suc-le-zero h)
-  getD-listOf (suc n) f d zero h = refl
-  getD-listOf (suc n) f d (suc i) h = getD-listOf n (λ k. f (suc k)) d i (le_of_suc-le-suc h)
+  get_d_list_of zero f d i h = absurd (not-suc-le-zero h)
+  get_d_list_of (suc n) f d zero h = refl
+  get_d_list_of (suc n) f d (suc i) h = get_d_list_of n (λ k. f (suc k)) d i (le_of_suc-le-suc h)
 
   -- an array filled from the front: one place more
-  pub fill-next : (f : ℕ → A) (d : A) (l : List A) (j : ℕ) (v : A) → j < length l → ((k : ℕ) → k < j → get_or l k d ≡ f k)
+  pub fill_next : (f : ℕ → A) (d : A) (l : List A) (j : ℕ) (v : A) → j < length l → ((k : ℕ) → k < j → get_or l k d ≡ f k)
       → v ≡ f j
       → (k : ℕ) → k < j + 1 → get_or (set l j v) k d ≡ f k
-  fill-next f d l j v h all here =
+  fill_next f d l j v h all here =
       below_more (λ k. get_or (set l j v) k d ≡ f k) j
       (λ k lt. get_or-set_other l j k v d (λ e. omega arith) ∙ all k lt) (get_or-set_same l j v d h ∙ here)
 
@@ -143,6 +143,6 @@ module _ {A : Type 0} where
   pub fill_done : (n : ℕ) (f : ℕ → A) (d : A) (l : List A) → length l ≡ n → ((k : ℕ) → k < n → get_or l k d ≡ f k)
       → l ≡ list_of n f
   fill_done n f d l e all =
-      ext_get_or d l (list_of n f) (e ∙ sym (length-listOf n f)) (λ i h.
+      ext_get_or d l (list_of n f) (e ∙ sym (length-list_of n f)) (λ i h.
       let b : i < n = subst (λ (k : ℕ). i < k) e h in
-      all i b ∙ sym (getD-listOf n f d i b))
+      all i b ∙ sym (get_d_list_of n f d i b))

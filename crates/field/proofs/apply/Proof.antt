@@ -11,7 +11,7 @@ use Rattle.field.specs.Xor.{◌⊕◌}
 use Rattle.field.specs.Maps
 use Rattle.field.specs.Maps.{affine, linear}
 use Rattle.field.proofs.Laws.Xor.{⊕-zero}
-use Rattle.field.proofs.Laws.Steps.{part, shift-next, column-set, column-clear}
+use Rattle.field.proofs.Laws.Steps.{part, shift-next, column-set, column_clear}
 use Rattle.field.proofs.apply.Statement.{statement}
 use Rattle.field.proofs.apply.Tie as tie
 
@@ -43,7 +43,7 @@ loop-again c =
       shift-next g.x l.y l.i l.invariant.1,
       ⊎_elim
           (λ w. w.1 ∙ column-set g.c g.t2 l.sum g.x l.y l.i l.invariant.1 l.invariant.2 w.0.taken)
-          (λ w. w.1 ∙ column-clear g.c g.t2 l.sum g.x l.y l.i l.invariant.1 l.invariant.2 w.0.left)
+          (λ w. w.1 ∙ column_clear g.c g.t2 l.sum g.x l.y l.i l.invariant.1 l.invariant.2 w.0.left)
           c.if1.branch,
     )
 

@@ -2,7 +2,7 @@
 use mathlib.Core.Path.{ap, ◌∙◌}
 use borrow.Author.Rules.{rules}
 use Rattle.field.specs.Field.{times, squared}
-use Rattle.field.proofs.Laws.Squares.{squared-dual}
+use Rattle.field.proofs.Laws.Squares.{squared_dual}
 use Rattle.field.proofs.dual_squared.Statement.{statement}
 use Rattle.field.proofs.dual_squared.Tie as tie
 
@@ -18,7 +18,7 @@ index-2-result c = search rules
 returns : tie.Need-returns
 returns c =
     let s = c.before.before.before in
-    squared-dual s.args.m s.args.i s.args.j c.before.before.if1.true s.requires c.before.if2.true
+    squared_dual s.args.m s.args.i s.args.j c.before.before.if1.true s.requires c.before.if2.true
 
 dual-requires : tie.Need-dual-requires
 dual-requires c κs = search rules

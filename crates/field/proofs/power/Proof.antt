@@ -8,9 +8,9 @@ use borrow.Author.Rules.{rules}
 use lib.Dec.{lit<}
 use Rattle.field.specs.Field.{times, power}
 use Rattle.field.proofs.Laws.Ring.{ring}
-use Rattle.field.proofs.Laws.Algebra.{pow-byte, mul-one}
-use Rattle.field.proofs.Laws.Product.{times-lt}
-use Rattle.field.proofs.Laws.Steps.{power-odd, power-even}
+use Rattle.field.proofs.Laws.Algebra.{pow_byte, mul-one}
+use Rattle.field.proofs.Laws.Product.{times_lt}
+use Rattle.field.proofs.Laws.Steps.{power-odd, power_even}
 use Rattle.field.proofs.power.Statement.{statement}
 use Rattle.field.proofs.power.Tie as tie
 
@@ -24,7 +24,7 @@ loop-holds : tie.Need-loop-init invariant-loop decreases-loop
 loop-holds c =
     let g = c.args in
     let R = ring g.m (omega arith) in
-    (lit< tt, R.one-mul (power (times g.m) g.a g.e) (pow-byte R g.a g.e))
+    (lit< tt, R.one-mul (power (times g.m) g.a g.e) (pow_byte R g.a g.e))
 
 times-requires : tie.Need-times-requires invariant-loop decreases-loop
 times-requires c κs = search rules
@@ -42,14 +42,14 @@ loop-again c =
     let hm : m < 256 = omega arith in
     ⊎_elim
     (λ w. (
-      subst (λ (x : ℕ). x < 256) (sym (w.2 ∙ w.1.ensures)) (times-lt m l.result l.x hm),
+      subst (λ (x : ℕ). x < 256) (sym (w.2 ∙ w.1.ensures)) (times_lt m l.result l.x hm),
       ap₂ (λ (r x : ℕ). times m r (power (times m) x (l.n / 2))) (w.2 ∙ w.1.ensures) c.times2.ensures
           ∙ power-odd m hm l.result l.x l.n w.0.taken ∙ l.invariant.1,
     ))
     (λ w. (
       subst (λ (x : ℕ). x < 256) (sym w.1) l.invariant.0,
       ap₂ (λ (r x : ℕ). times m r (power (times m) x (l.n / 2))) w.1 c.times2.ensures
-          ∙ power-even m hm l.result l.x l.n w.0.left ∙ l.invariant.1,
+          ∙ power_even m hm l.result l.x l.n w.0.left ∙ l.invariant.1,
     ))
     c.before.if1.branch
 

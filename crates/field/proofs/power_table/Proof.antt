@@ -7,7 +7,7 @@ use native.Mathlib.Numerals.{add-one}
 use native.Mathlib.Omega.{arith}
 use lib.ListN.{length, get_or, length-set}
 use Rattle.field.specs.Field.{times, power}
-use Rattle.field.proofs.Laws.Sums.{fill-next, fill_done}
+use Rattle.field.proofs.Laws.Sums.{fill_next, fill_done}
 use borrow.Author.Rules.{rules}
 use Rattle.field.proofs.power_table.Statement.{statement}
 use Rattle.field.proofs.power_table.Tie as tie
@@ -42,7 +42,7 @@ loop-again c =
       length-set l.out l.j l.x ∙ l.invariant.1,
       c.times.ensures ∙ ap (times g.m g.a) l.invariant.2
           ∙ sym (ap (power (times g.m) g.a) (add-one l.j)),
-      fill-next (power (times g.m) g.a) 0 l.out l.j l.x (omega arith) l.invariant.3 l.invariant.2,
+      fill_next (power (times g.m) g.a) 0 l.out l.j l.x (omega arith) l.invariant.3 l.invariant.2,
     )
 
 returns : tie.Need-returns invariant-loop decreases-loop

@@ -10,7 +10,7 @@ use borrow.Author.Rules.{rules}
 use Rattle.field.specs.Xor.{◌⊕◌}
 use Rattle.field.specs.Field.{shifted, times}
 use Rattle.field.proofs.Laws.Xor.{zero-⊕, ⊕-zero}
-use Rattle.field.proofs.Laws.Steps.{bit-set, bit-clear}
+use Rattle.field.proofs.Laws.Steps.{bit-set, bit_clear}
 use Rattle.field.proofs.times.Statement.{statement}
 use Rattle.field.proofs.times.Tie as tie
 
@@ -43,7 +43,7 @@ loop-again c =
           (λ w. ap₂ (λ (s x : ℕ). s ⊕ shifted m (l.n - 1) x (l.y / 2)) w.1 c.doubled.ensures
           ∙ bit-set m l.n l.sum l.x l.y more w.0.taken)
           (λ w. ap₂ (λ (s x : ℕ). s ⊕ shifted m (l.n - 1) x (l.y / 2)) w.1 c.doubled.ensures
-          ∙ bit-clear m l.n l.sum l.x l.y more w.0.left)
+          ∙ bit_clear m l.n l.sum l.x l.y more w.0.left)
           c.before.if1.branch
           ∙ l.invariant.1,
     )

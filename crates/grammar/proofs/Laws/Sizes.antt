@@ -14,10 +14,10 @@ use Rattle.tokens.specs.declared.word.Word.TheVariants.{Shares, Map, Input, Orig
 use Rattle.tokens.specs.declared.word.Word.TheVariants.{Result, Masked, Output, Unknown}
 use Rattle.tokens.specs.Ascii.{ascii, within}
 use Rattle.tokens.specs.Byte.{Each}
-use Rattle.tokens.specs.Token.{◌>>=◌, Name, Term, hexDigit, readName, readPlain, readHex, readCount, readTerm}
-use Rattle.tokens.specs.Word.{words, wordOf}
+use Rattle.tokens.specs.Token.{◌>>=◌, Name, Term, hex_digit, read_name, read_plain, read_hex, read_count, read_term}
+use Rattle.tokens.specs.Word.{words, word_of}
 use Rattle.tokens.proofs.Laws.Flags.{and-true}
-use Rattle.tokens.proofs.Laws.Some.{some_same, provided-some, bind-some}
+use Rattle.tokens.proofs.Laws.Some.{some_same, provided-some, bind_some}
 use Rattle.tokens.proofs.Laws.Joined.{weight}
 use Rattle.tokens.proofs.Laws.Word.{spelt-each}
 use Rattle.tokens.proofs.Laws.Written.{Named, name-written, plain-written}
@@ -45,40 +45,40 @@ Spells Output p = length p ≡ 6
 Spells Unknown p = Unit {0}
 
 -- the word that the bytes spell has as many
-pub word-spells : (p : List ℕ) → Spells (wordOf p) p
-unfolding wordOf words ascii
-word-spells p =
+pub word_spells : (p : List ℕ) → Spells (word_of p) p
+unfolding word_of words ascii
+word_spells p =
     spelt-each Unknown p Spells tt words
     (refl, (refl, (refl, (refl, (refl, (refl, (refl, (refl, (refl, (refl, (refl, (refl, (refl, tt)))))))))))))
 
 -- ---- fields
 
 -- a name's field
-pub name-size : (p : List ℕ) (n : Name) → readName p ≡ some n → Named n × (length p ≤ 14)
+pub name-size : (p : List ℕ) (n : Name) → read_name p ≡ some n → Named n × (length p ≤ 14)
 name-size p n e = let w = name-written p n e in (w.1, omega (arith, w.1.size, ap length w.0))
 
 -- the field of a name without a dot part
-pub plain_size : (p : List ℕ) (n : Name) → readPlain p ≡ some n → Mapped n × (length p ≤ 14)
+pub plain_size : (p : List ℕ) (n : Name) → read_plain p ≡ some n → Mapped n × (length p ≤ 14)
 plain_size p n e =
     let w = plain-written p n e in
     (record { named = w.1; plain = w.2 }, omega (arith, w.1.size, ap length w.0))
 
 -- an operand's field
-pub term-size : (p : List ℕ) (t : Term) → readTerm p ≡ some t → Termed t × (length p ≤ 14)
+pub term-size : (p : List ℕ) (t : Term) → read_term p ≡ some t → Termed t × (length p ≤ 14)
 term-size p t e = let w = term-written p t e in (w.1, omega (arith, w.1.size, ap length w.0))
 
 -- two hex digits
-pub hex-size : (p : List ℕ) (v : ℕ) → readHex p ≡ some v → length p ≡ 2
-unfolding readHex
-hex-size p v e =
-    let a = ltb (hexDigit (get_or p 0 0)) 16 in
-    let b = ltb (hexDigit (get_or p 1 0)) 16 in
+pub hex_size : (p : List ℕ) (v : ℕ) → read_hex p ≡ some v → length p ≡ 2
+unfolding read_hex
+hex_size p v e =
+    let a = ltb (hex_digit (get_or p 0 0)) 16 in
+    let b = ltb (hex_digit (get_or p 1 0)) 16 in
     let k = provided-some (eqb (length p) 2 && a && b) _ e in
     eqb-true (length p) 2 (and-true (eqb (length p) 2) a (and-true (eqb (length p) 2 && a) b k.0).0).0
 
 -- one digit
-pub count-size : (p : List ℕ) (v : ℕ) → readCount p ≡ some v → length p ≡ 1
-unfolding readCount
+pub count-size : (p : List ℕ) (v : ℕ) → read_count p ≡ some v → length p ≡ 1
+unfolding read_count
 count-size p v e =
     let b = within 49 56 (get_or p 0 0) in
     let k = provided-some (eqb (length p) 1 && b) _ e in
@@ -91,8 +91,8 @@ pub each-size : {A : Type 0} (f : List ℕ → Option A) (P : A → Type 0) (c :
 unfolding each weight
 each-size f P c h [] l e = (subst (Each P) (some_same e) tt, omega arith)
 each-size f P c h (p ∷ ps) l e =
-    let a = bind-some (f p) (λ a. each f ps >>= λ rest. some (a ∷ rest)) e in
-    let b = bind-some (each f ps) (λ rest. some (a.0 ∷ rest)) a.2 in
+    let a = bind_some (f p) (λ a. each f ps >>= λ rest. some (a ∷ rest)) e in
+    let b = bind_some (each f ps) (λ rest. some (a.0 ∷ rest)) a.2 in
     let k = h p a.0 a.1 in
     let ih = each-size f P c h ps b.0 b.1 in (
       subst (Each P) (some_same b.2) (k.0, ih.0),
@@ -105,13 +105,13 @@ each-size f P c h (p ∷ ps) l e =
 -- ---- pieces
 
 -- the bytes of the word and of n fields, one more for each
-abbrev pub frontWeight : ℕ → List (List ℕ) → ℕ
-frontWeight zero ps = length (field 0 ps) + 1
-frontWeight (suc n) ps = frontWeight n ps + (length (field (suc n) ps) + 1)
+abbrev pub front_weight : ℕ → List (List ℕ) → ℕ
+front_weight zero ps = length (field 0 ps) + 1
+front_weight (suc n) ps = front_weight n ps + (length (field (suc n) ps) + 1)
 
 -- the word and n fields, and what stands behind them
 pub weight-front : (n : ℕ) (ps : List (List ℕ)) → n < length ps
-    → weight ps ≡ frontWeight n ps + weight (drop (suc n) ps)
+    → weight ps ≡ front_weight n ps + weight (drop (suc n) ps)
 unfolding weight
 weight-front zero [] h = absurd (omega arith)
 weight-front zero (p ∷ ps) h = refl
@@ -121,7 +121,7 @@ weight-front (suc n) ps h =
     omega (arith, weight-front n ps (omega arith), here)
 
 -- the word and n fields alone
-pub weight-whole : (n : ℕ) (ps : List (List ℕ)) → fields n (length ps) ≡ true → weight ps ≡ frontWeight n ps
+pub weight-whole : (n : ℕ) (ps : List (List ℕ)) → fields n (length ps) ≡ true → weight ps ≡ front_weight n ps
 unfolding weight
 weight-whole n ps e =
     let size : length ps ≡ n + 1 = eqb-true (length ps) (n + 1) e in

@@ -10,19 +10,19 @@ use lib.Seq.{take_all, length-take-le, get_or-drop, ext_get_or}
 use Rattle.field.specs.Field.Modulus.{aes}
 use Rattle.field.specs.Laws.{gf}
 use Rattle.poly.specs.Poly.{Poly}
-use Rattle.poly.specs.First.{firstDiffering, tried}
+use Rattle.poly.specs.First.{first_differing, tried}
 use Rattle.poly.specs.Canon.{Canon}
-use Rattle.buffer.specs.Buffer.{readTerms}
+use Rattle.buffer.specs.Buffer.{read_terms}
 use Rattle.search.specs.Search.{SearchAsked, Searched}
 use Rattle.text.specs.declared.routine.Routine as code
 use Rattle.text.specs.Routine.{routine_of}
-use Rattle.verdict.specs.Instances.{modulusOf, powersOf, difference}
+use Rattle.verdict.specs.Instances.{modulus_of, powers_of, difference}
 use Rattle.verdict.specs.Judge.{fronted}
-use Rattle.verdict.proofs.Laws.Value.{difference-reduced}
+use Rattle.verdict.proofs.Laws.Value.{difference_reduced}
 use Rattle.values.specs.Load.{LayAsked}
-use Rattle.survey.specs.Survey.{modulus, termBytes}
+use Rattle.survey.specs.Survey.{modulus, term_bytes}
 use Rattle.judge.specs.Settle.{ChooseAsked, chosen, Chosen}
-use Rattle.values.proofs.Laws.Forming.{read-drop, end-room}
+use Rattle.values.proofs.Laws.Forming.{read-drop, end_room}
 
 -- a list whose first v bytes became bs, the others as they were
 pub fronted-by : (bs l l' : List ℕ) (v : ℕ) → take v l' ≡ bs → v ≤ length l → length l' ≡ length l
@@ -39,52 +39,52 @@ fronted-by bs l l' v e h n b =
 module _ {r : code.Routine} {left : List ℕ} {top k : ℕ} {list : List ℕ} (A : ChooseAsked r left top k list) where
   -- the buffer from the difference on
   abbrev rest : List ℕ
-  rest = take (length left - top * termBytes r) (drop (top * termBytes r) left)
+  rest = take (length left - top * term_bytes r) (drop (top * term_bytes r) left)
 
-  rest-terms : readTerms (termBytes r - 1) rest 0 k ≡ difference (routine_of r)
+  rest-terms : read_terms (term_bytes r - 1) rest 0 k ≡ difference (routine_of r)
   rest-terms =
-      ap (λ (b : List ℕ). readTerms (termBytes r - 1) b 0 k)
-      (take_all (length left - top * termBytes r) (drop (top * termBytes r) left)
-      (omega (arith, length-drop (top * termBytes r) left)))
-      ∙ read-drop (termBytes r - 1) left (top * termBytes r) 0 k
-      ∙ ap (λ (x : ℕ). readTerms (termBytes r - 1) left x k) (add-zero (top * termBytes r))
+      ap (λ (b : List ℕ). read_terms (term_bytes r - 1) b 0 k)
+      (take_all (length left - top * term_bytes r) (drop (top * term_bytes r) left)
+      (omega (arith, length-drop (top * term_bytes r) left)))
+      ∙ read-drop (term_bytes r - 1) left (top * term_bytes r) 0 k
+      ∙ ap (λ (x : ℕ). read_terms (term_bytes r - 1) left x k) (add-zero (top * term_bytes r))
       ∙ A.terms
 
-  powers : r.variables ≡ termBytes r - 1
+  powers : r.variables ≡ term_bytes r - 1
   powers = omega arith
 
-  rest-canon : Canon (termBytes r - 1) (readTerms (termBytes r - 1) rest 0 k)
-  unfolding routine_of powersOf
+  rest-canon : Canon (term_bytes r - 1) (read_terms (term_bytes r - 1) rest 0 k)
+  unfolding routine_of powers_of
   rest-canon =
-      subst (Canon (termBytes r - 1)) (sym rest-terms)
+      subst (Canon (term_bytes r - 1)) (sym rest-terms)
       (subst (λ (n : ℕ). Canon n (difference (routine_of r))) powers
-      (difference-reduced (routine_of r) A.ready.formed).0)
+      (difference_reduced (routine_of r) A.ready.formed).0)
 
-  lay : LayAsked left top k (termBytes r)
+  lay : LayAsked left top k (term_bytes r)
   lay = record { some = omega arith; most = omega (arith, A.ready.counted.room); room = A.room }
 
   -- the search is asked what holds
-  pub search-asked : SearchAsked modulus rest k (termBytes r) list
-  search-asked = record {
+  pub search_asked : SearchAsked modulus rest k (term_bytes r) list
+  search_asked = record {
     modulus = aes;
     some = A.some;
     wide = omega arith;
     few = omega (arith, A.ready.counted.room);
-    source = end-room (termBytes r) top k left lay;
+    source = end_room (term_bytes r) top k left lay;
     canon = rest-canon;
     list = omega (arith, A.ready.counted.room, A.long);
   }
 
-  bytes_chosen : firstDiffering (gf modulus) (termBytes r - 1) (readTerms (termBytes r - 1) rest 0 k) ≡ chosen r
-  unfolding modulusOf
-  bytes_chosen = ap₂ (λ (v : ℕ) (p : Poly). firstDiffering (gf modulus) v p) (sym powers) rest-terms
+  bytes_chosen : first_differing (gf modulus) (term_bytes r - 1) (read_terms (term_bytes r - 1) rest 0 k) ≡ chosen r
+  unfolding modulus_of
+  bytes_chosen = ap₂ (λ (v : ℕ) (p : Poly). first_differing (gf modulus) v p) (sym powers) rest-terms
 
   -- the chosen bytes stand at the front of the list
-  pub chosen-listed : (rest' list' : List ℕ) (n : ℕ) → Searched modulus rest rest' k (termBytes r) list list' n
+  pub chosen-listed : (rest' list' : List ℕ) (n : ℕ) → Searched modulus rest rest' k (term_bytes r) list list' n
       → Chosen r list list' n
   chosen-listed rest' list' n h = record {
     listed =
-        fronted-by (chosen r) list list' (termBytes r - 1) (h.found
+        fronted-by (chosen r) list list' (term_bytes r - 1) (h.found
         ∙ bytes_chosen) (omega (arith, A.ready.counted.room, A.long))
         h.listed (λ j l. h.behind j (omega arith));
     count = h.count ∙ ap tried bytes_chosen;

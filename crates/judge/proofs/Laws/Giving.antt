@@ -15,10 +15,10 @@ use Rattle.verdict.specs.declared.report.Report.{Report}
 use Rattle.verdict.specs.declared.report.Trials.{Trials}
 use Rattle.verdict.specs.declared.trials.Tried.{Tried}
 use Rattle.verdict.specs.Trials as trials
-use Rattle.verdict.specs.Trials.{try, foundOf}
-use Rattle.verdict.specs.Judge.{givenUp, report, fronted, listAfter}
+use Rattle.verdict.specs.Trials.{try, found_of}
+use Rattle.verdict.specs.Judge.{given_up, report, fronted, list_after}
 use Rattle.verdict.proofs.Laws.Making.{found_none, found_some}
-use Rattle.judge.specs.Settle.{givenUpReport, GaveUp}
+use Rattle.judge.specs.Settle.{given_up_report, GaveUp}
 
 -- ---- the bytes of a trial in the list
 
@@ -41,26 +41,26 @@ front-all d s l v h e =
 -- ---- what is reported
 
 module _ (r : code.Routine) (t : Trials) (line : ℕ) (list : List ℕ) (f : Tried)
-    (e : foundOf r.variables f ≡ try (routine_of r) t.count t.start) where
+    (e : found_of r.variables f ≡ try (routine_of r) t.count t.start) where
   -- no trial differs
-  pub gave-unknown : {a : Report} → f.found ≡ false → a ≡ givenUpReport Unknown line t.count
+  pub gave_unknown : {a : Report} → f.found ≡ false → a ≡ given_up_report Unknown line t.count
       → GaveUp r t line list a list
-  unfolding givenUp report listAfter
-  gave-unknown h q =
+  unfolding given_up report list_after
+  gave_unknown h q =
       let g = sym (found_none r.variables f e h) in
       record {
-        answered = q ∙ ap (λ (x : trials.Found). report (givenUp t.count line x)) g;
-        listed = ap (λ (x : trials.Found). listAfter (givenUp t.count line x) list) g;
+        answered = q ∙ ap (λ (x : trials.Found). report (given_up t.count line x)) g;
+        listed = ap (λ (x : trials.Found). list_after (given_up t.count line x) list) g;
       }
 
   -- the last one does
   pub gave_found : {a : Report} {list' : List ℕ} → f.found ≡ true
-      → list' ≡ fronted (take r.variables f.bytes) list → a ≡ givenUpReport Found line f.made
+      → list' ≡ fronted (take r.variables f.bytes) list → a ≡ given_up_report Found line f.made
       → GaveUp r t line list a list'
-  unfolding givenUp report listAfter
+  unfolding given_up report list_after
   gave_found h l q =
       let g = sym (found_some r.variables f e h) in
       record {
-        answered = q ∙ ap (λ (x : trials.Found). report (givenUp t.count line x)) g;
-        listed = l ∙ ap (λ (x : trials.Found). listAfter (givenUp t.count line x) list) g;
+        answered = q ∙ ap (λ (x : trials.Found). report (given_up t.count line x)) g;
+        listed = l ∙ ap (λ (x : trials.Found). list_after (given_up t.count line x) list) g;
       }

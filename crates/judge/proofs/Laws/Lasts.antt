@@ -17,25 +17,25 @@ use Rattle.buffer.proofs.Lent.Reads.{read_length}
 use Rattle.text.specs.declared.routine.Routine as code
 use Rattle.rules.specs.declared.types.Operand.TheVariants.{Place}
 use Rattle.rules.specs.Read.{Routine}
-use Rattle.text.specs.Routine.{origin_of, outputsOf, routine_of}
+use Rattle.text.specs.Routine.{origin_of, outputs_of, routine_of}
 use Rattle.rules.specs.Formed.{Each, Formed}
 use Rattle.verdict.specs.Lists.{tabulate, poured}
-use Rattle.verdict.specs.Meaning.{operand, value_at, resultIn, outputsIn, joinedIn, differenceIn}
-use Rattle.verdict.specs.Instances.{polynomials, polynomialsOf, modulusOf, powersOf, symbolic, difference}
-use Rattle.verdict.specs.Instances.{reducedResult}
-use Rattle.verdict.specs.Count.{lastStep}
+use Rattle.verdict.specs.Meaning.{operand, value_at, result_in, outputs_in, joined_in, difference_in}
+use Rattle.verdict.specs.Instances.{polynomials, polynomials_of, modulus_of, powers_of, symbolic, difference}
+use Rattle.verdict.specs.Instances.{reduced_result}
+use Rattle.verdict.specs.Count.{last_step}
 use Rattle.verdict.proofs.Laws.Lists.{each_at}
 use Rattle.verdict.proofs.Laws.Closed.{masked-closed}
-use Rattle.verdict.proofs.Laws.Value.{Reduced, modulus-of, routine-closed, variables-reduced, result-reduced}
+use Rattle.verdict.proofs.Laws.Value.{Reduced, modulus_of_lem, routine-closed, variables_reduced, result_reduced}
 use Rattle.values.specs.declared.shelf.Shelf.{Shelf}
 use Rattle.values.specs.declared.source.Source.{Source}
 use Rattle.values.specs.declared.source.Scope.{Scope}
 use Rattle.values.specs.Shelf.{Laid}
-use Rattle.values.specs.Source.{source_of, sourceSize, reach, Narrow, Located}
-use Rattle.values.specs.Load.{mostTermBytes, LayAsked, LoadAsked}
-use Rattle.values.specs.Raw.{mostStanding, SizeAsked, OperandSized}
-use Rattle.survey.specs.Difference.{placed, outputTerms, OutputsAsked, OutputsSized}
-use Rattle.survey.specs.Survey.{modulus, termBytes, originScope, maskedScope, Ready, Lent, Directed, Standing}
+use Rattle.values.specs.Source.{source_of, source_size, reach, Narrow, Located}
+use Rattle.values.specs.Load.{most_term_bytes, LayAsked, LoadAsked}
+use Rattle.values.specs.Raw.{most_standing, SizeAsked, OperandSized}
+use Rattle.survey.specs.Difference.{placed, output_terms, OutputsAsked, OutputsSized}
+use Rattle.survey.specs.Survey.{modulus, term_bytes, origin_scope, masked_scope, Ready, Lent, Directed, Standing}
 use Rattle.judge.specs.Settle.{LastSized, LastFormed}
 use Rattle.values.proofs.Laws.Sources.{source-length}
 use Rattle.survey.proofs.Laws.Outputs.{difference-normal}
@@ -53,22 +53,22 @@ raw-places n vs h [] = tt
 raw-places n vs h (i ∷ places) =
     (each_at (Raw n) vs [] h (record { coefs = tt; powers = tt }) i, raw-places n vs h places)
 
-raw-masked : (r : Routine) → Formed r → Each (Raw (powersOf r)) (symbolic r).masked
+raw-masked : (r : Routine) → Formed r → Each (Raw (powers_of r)) (symbolic r).masked
 unfolding symbolic
 raw-masked r F =
-    raw_each r.variables (powersOf r - r.variables) (powersOf r) (symbolic r).masked
-    (masked-closed (routine-closed r F) r F (tabulate r.variables (variable (powersOf r)))
-    (variables-reduced r F))
+    raw_each r.variables (powers_of r - r.variables) (powers_of r) (symbolic r).masked
+    (masked-closed (routine-closed r F) r F (tabulate r.variables (variable (powers_of r)))
+    (variables_reduced r F))
 
 -- the difference is one sum of the terms of the result and of all outputs
 difference-terms : (r : Routine) → Formed r
-    → difference r ≡ normal (gf (modulusOf r)) (reducedResult r ++ poured (outputsIn (polynomialsOf r) r
+    → difference r ≡ normal (gf (modulus_of r)) (reduced_result r ++ poured (outputs_in (polynomials_of r) r
     (symbolic r).masked))
-unfolding difference differenceIn joinedIn outputsIn value_at polynomialsOf polynomials reducedResult
+unfolding difference difference_in joined_in outputs_in value_at polynomials_of polynomials reduced_result
 difference-terms r F =
-    difference-normal (modulusOf r) (powersOf r) (modulus-of r) (reducedResult r)
-    (outputsIn (polynomialsOf r) r (symbolic r).masked) (canon-raw (result-reduced r F).0)
-    (raw-places (powersOf r) (symbolic r).masked (raw-masked r F) r.outputs)
+    difference-normal (modulus_of r) (powers_of r) (modulus_of_lem r) (reduced_result r)
+    (outputs_in (polynomials_of r) r (symbolic r).masked) (canon-raw (result_reduced r F).0)
+    (raw-places (powers_of r) (symbolic r).masked (raw-masked r F) r.outputs)
 
 poured-length : (ps : List Poly) → length (poured ps) ≡ sum (map length ps)
 poured-length [] = refl
@@ -78,7 +78,7 @@ poured-length (p ∷ ps) = length-append p (poured ps) ∙ ap (λ (k : ℕ). len
 
 module _ {r : code.Routine} (Q : Ready r) {d : Shelf} (D : Directed r d) where
   -- the origin block's places can be found
-  pub origin-narrow : Narrow (originScope r) d
+  pub origin-narrow : Narrow (origin_scope r) d
   origin-narrow = record {
     sound = D.sound;
     base = omega arith;
@@ -86,7 +86,7 @@ module _ {r : code.Routine} (Q : Ready r) {d : Shelf} (D : Directed r d) where
   }
 
   -- the masked block's places can be found
-  pub masked-narrow : Narrow (maskedScope r) d
+  pub masked-narrow : Narrow (masked_scope r) d
   masked-narrow = record {
     sound = D.sound;
     base = D.base;
@@ -94,123 +94,123 @@ module _ {r : code.Routine} (Q : Ready r) {d : Shelf} (D : Directed r d) where
   }
 
   -- and their sizes counted
-  pub masked-sized : SizeAsked (maskedScope r) d
+  pub masked-sized : SizeAsked (masked_scope r) d
   masked-sized = record { narrow = masked-narrow; most = D.top }
 
 module _ {r : code.Routine} (Q : Ready r) {d : Shelf} {left : List ℕ} (S : Standing r left d) where
   -- the terms of all outputs
   abbrev outs : Poly
-  outs = outputTerms (termBytes r) left d (maskedScope r) r.outputs r.named
+  outs = output_terms (term_bytes r) left d (masked_scope r) r.outputs r.named
 
   result-inside : r.result < r.inputs + r.origin
   unfolding routine_of origin_of
   result-inside = omega (arith, Q.ranged.result, length-take r.origin r.statements)
 
   -- the result, among the values that stand
-  result-at : get_or (reach (termBytes r) left d (originScope r)) r.result []
-      ≡ reducedResult (routine_of r)
-  unfolding routine_of resultIn value_at polynomialsOf polynomials reducedResult
-  result-at =
-      sym (get_or-take (r.inputs + r.origin) (reach (termBytes r) left d (originScope r)) r.result [] result-inside)
+  result_at_lem : get_or (reach (term_bytes r) left d (origin_scope r)) r.result []
+      ≡ reduced_result (routine_of r)
+  unfolding routine_of result_in value_at polynomials_of polynomials reduced_result
+  result_at_lem =
+      sym (get_or-take (r.inputs + r.origin) (reach (term_bytes r) left d (origin_scope r)) r.result [] result-inside)
       ∙ ap (λ (vs : List Poly). get_or vs r.result []) S.origin
 
   -- it is found at its source
-  pub result-found : (a : Source) → Located (originScope r) d (Place r.result) a
-      → source_of (termBytes r) left a ≡ reducedResult (routine_of r)
+  pub result-found : (a : Source) → Located (origin_scope r) d (Place r.result) a
+      → source_of (term_bytes r) left a ≡ reduced_result (routine_of r)
   unfolding operand value_at polynomials
-  result-found a L = L.means modulus (termBytes r) left ∙ result-at
+  result-found a L = L.means modulus (term_bytes r) left ∙ result_at_lem
 
-  outputs-found : map (placed (termBytes r) left d (maskedScope r)) (take r.named r.outputs)
-      ≡ outputsIn (polynomialsOf (routine_of r)) (routine_of r) (symbolic (routine_of r)).masked
-  unfolding routine_of outputsOf outputsIn value_at polynomialsOf polynomials
+  outputs-found : map (placed (term_bytes r) left d (masked_scope r)) (take r.named r.outputs)
+      ≡ outputs_in (polynomials_of (routine_of r)) (routine_of r) (symbolic (routine_of r)).masked
+  unfolding routine_of outputs_of outputs_in value_at polynomials_of polynomials
   outputs-found = ap (λ (vs : List Poly). map (λ i. get_or vs i []) (take r.named r.outputs)) S.masked
 
   outputs-length : length outs
-      ≡ sum (map length (outputsIn (polynomialsOf (routine_of r)) (routine_of r) (symbolic (routine_of r)).masked))
+      ≡ sum (map length (outputs_in (polynomials_of (routine_of r)) (routine_of r) (symbolic (routine_of r)).masked))
   outputs-length =
-      poured-length (map (placed (termBytes r) left d (maskedScope r)) (take r.named r.outputs))
+      poured-length (map (placed (term_bytes r) left d (masked_scope r)) (take r.named r.outputs))
       ∙ ap (λ (ps : List Poly). sum (map length ps)) outputs-found
 
   -- the raw size of the difference, by the sizes of the directory
-  raw-by : (k j : ℕ) → OperandSized (originScope r) d (Place r.result) k
-      → OutputsSized r.outputs r.named (maskedScope r) d j
-      → k + j ≡ (lastStep (routine_of r) (symbolic (routine_of r))).raw
-  unfolding lastStep operand value_at polynomials reducedResult
+  raw-by : (k j : ℕ) → OperandSized (origin_scope r) d (Place r.result) k
+      → OutputsSized r.outputs r.named (masked_scope r) d j
+      → k + j ≡ (last_step (routine_of r) (symbolic (routine_of r))).raw
+  unfolding last_step operand value_at polynomials reduced_result
   raw-by k j h g =
-      ap₂ (λ (x y : ℕ). x + y) (h.means modulus (termBytes r) left ∙ ap length result-at)
-      (g.means (termBytes r) left ∙ outputs-length)
+      ap₂ (λ (x y : ℕ). x + y) (h.means modulus (term_bytes r) left ∙ ap length result_at_lem)
+      (g.means (term_bytes r) left ∙ outputs-length)
 
-  module _ {a : Source} (L : Located (originScope r) d (Place r.result) a) where
+  module _ {a : Source} (L : Located (origin_scope r) d (Place r.result) a) where
     -- the raw size of the difference
-    pub last-raw : sourceSize a + length outs ≡ (lastStep (routine_of r) (symbolic (routine_of r))).raw
-    unfolding lastStep reducedResult
+    pub last-raw : source_size a + length outs ≡ (last_step (routine_of r) (symbolic (routine_of r))).raw
+    unfolding last_step reduced_result
     last-raw =
         ap₂ (λ (x y : ℕ). x + y)
-        (sym (source-length (termBytes r) left a) ∙ ap length (result-found a L)) outputs-length
+        (sym (source-length (term_bytes r) left a) ∙ ap length (result-found a L)) outputs-length
 
-    last-terms : normal (gf modulus) (source_of (termBytes r) left a ++ outs) ≡ difference (routine_of r)
-    unfolding modulusOf
+    last-terms : normal (gf modulus) (source_of (term_bytes r) left a ++ outs) ≡ difference (routine_of r)
+    unfolding modulus_of
     last-terms =
         ap₂ (λ (p : Poly) (ps : List Poly). normal (gf modulus) (p ++ poured ps)) (result-found a L) outputs-found
         ∙ sym (difference-terms (routine_of r) Q.formed)
 
     -- it has no more terms than its raw size
-    last-small : length (difference (routine_of r)) ≤ (lastStep (routine_of r) (symbolic (routine_of r))).raw
+    last-small : length (difference (routine_of r)) ≤ (last_step (routine_of r) (symbolic (routine_of r))).raw
     last-small =
         omega (
           arith,
           ap length last-terms,
-          add-size (gf modulus) (source_of (termBytes r) left a) outs,
-          source-length (termBytes r) left a,
+          add-size (gf modulus) (source_of (term_bytes r) left a) outs,
+          source-length (term_bytes r) left a,
           last-raw,
         )
 
     module _ {right : List ℕ} (T : Lent left right)
-        (fits : d.top + (lastStep (routine_of r) (symbolic (routine_of r))).raw ≤ mostStanding) where
-      some-room : (k : ℕ) → k ≤ mostStanding → k * termBytes r ≤ length left
-      some-room k h = omega (arith, mul-le-mul_right (termBytes r) h, lent-room r left right Q T)
+        (fits : d.top + (last_step (routine_of r) (symbolic (routine_of r))).raw ≤ most_standing) where
+      some-room : (k : ℕ) → k ≤ most_standing → k * term_bytes r ≤ length left
+      some-room k h = omega (arith, mul-le-mul_right (term_bytes r) h, lent-room r left right Q T)
 
-      narrow-term : termBytes r ≤ mostTermBytes
+      narrow-term : term_bytes r ≤ most_term_bytes
       narrow-term = omega (arith, Q.counted.room)
 
       -- what loading the result asks, and then the outputs
-      pub last-load : LoadAsked left a right 0 (termBytes r)
+      pub last-load : LoadAsked left a right 0 (term_bytes r)
       last-load = record {
         top = d.top;
         held = some-room d.top (omega arith);
-        fits = L.fits (termBytes r) (omega (arith, Q.counted.fits));
+        fits = L.fits (term_bytes r) (omega (arith, Q.counted.fits));
         asked = record {
           some = omega arith;
           most = narrow-term;
-          room = omega (arith, some-room (0 + sourceSize a) (omega (arith, last-raw)), T.same);
+          room = omega (arith, some-room (0 + source_size a) (omega (arith, last-raw)), T.same);
         };
       }
 
-      last-outputs : OutputsAsked left r.outputs r.named (maskedScope r) d right (sourceSize a) (termBytes r)
+      last-outputs : OutputsAsked left r.outputs r.named (masked_scope r) d right (source_size a) (term_bytes r)
       last-outputs = record {
         narrow = masked-narrow Q S.directed;
         wide = omega (arith, mul-one (r.inputs * r.shares), Q.counted.fits);
         most = narrow-term;
         few = Q.counted.outputs;
         held = some-room d.top (omega arith);
-        room = omega (arith, some-room (sourceSize a + length outs) (omega (arith, last-raw)), T.same);
+        room = omega (arith, some-room (source_size a + length outs) (omega (arith, last-raw)), T.same);
       }
 
-      last-lay : LayAsked left d.top (sourceSize a + length outs) (termBytes r)
+      last-lay : LayAsked left d.top (source_size a + length outs) (term_bytes r)
       last-lay = record {
         some = omega arith;
         most = narrow-term;
-        room = some-room (d.top + (sourceSize a + length outs)) (omega (arith, last-raw));
+        room = some-room (d.top + (source_size a + length outs)) (omega (arith, last-raw));
       }
 
       formed-here : (left' : List ℕ) (k : ℕ)
-          → Laid (termBytes r) left left' d.top k (normal (gf modulus) (source_of (termBytes r) left a ++ outs))
+          → Laid (term_bytes r) left left' d.top k (normal (gf modulus) (source_of (term_bytes r) left a ++ outs))
           → LastFormed r d left left' k
       formed-here left' k h =
-          let g : Laid (termBytes r) left left' d.top k (difference (routine_of r)) =
-          subst (Laid (termBytes r) left left' d.top k) last-terms h in
+          let g : Laid (term_bytes r) left left' d.top k (difference (routine_of r)) =
+          subst (Laid (term_bytes r) left left' d.top k) last-terms h in
           let c : k ≡ length (difference (routine_of r)) =
-          sym (read_length (termBytes r - 1) left' (d.top * termBytes r) k) ∙ ap length g.terms in
+          sym (read_length (term_bytes r - 1) left' (d.top * term_bytes r) k) ∙ ap length g.terms in
           record {
             laid = g;
             count = c;
@@ -218,41 +218,41 @@ module _ {r : code.Routine} (Q : Ready r) {d : Shelf} {left : List ℕ} (S : Sta
           }
 
       -- the scope of the masked block comes of a call
-      module _ {t : Scope} (e : t ≡ maskedScope r) where
+      module _ {t : Scope} (e : t ≡ masked_scope r) where
         -- what forming the difference asks
-        pub last-asked : LoadAsked left a right 0 (termBytes r)
-            × OutputsAsked left r.outputs r.named t d right (sourceSize a) (termBytes r)
-            × LayAsked left d.top (sourceSize a + length
-            (outputTerms (termBytes r) left d t r.outputs r.named)) (termBytes r)
+        pub last-asked : LoadAsked left a right 0 (term_bytes r)
+            × OutputsAsked left r.outputs r.named t d right (source_size a) (term_bytes r)
+            × LayAsked left d.top (source_size a + length
+            (output_terms (term_bytes r) left d t r.outputs r.named)) (term_bytes r)
         last-asked =
-            subst (λ (x : Scope). LoadAsked left a right 0 (termBytes r)
-            × OutputsAsked left r.outputs r.named x d right (sourceSize a) (termBytes r)
-            × LayAsked left d.top (sourceSize a + length
-            (outputTerms (termBytes r) left d x r.outputs r.named)) (termBytes r))
+            subst (λ (x : Scope). LoadAsked left a right 0 (term_bytes r)
+            × OutputsAsked left r.outputs r.named x d right (source_size a) (term_bytes r)
+            × LayAsked left d.top (source_size a + length
+            (output_terms (term_bytes r) left d x r.outputs r.named)) (term_bytes r))
             (sym e) (last-load, last-outputs, last-lay)
 
         -- what is formed is the difference
         pub last-formed : (left' : List ℕ) (k : ℕ)
-            → Laid (termBytes r) left left' d.top k
-            (normal (gf modulus) (source_of (termBytes r) left a ++ outputTerms (termBytes r) left d t r.outputs
+            → Laid (term_bytes r) left left' d.top k
+            (normal (gf modulus) (source_of (term_bytes r) left a ++ output_terms (term_bytes r) left d t r.outputs
             r.named))
             → LastFormed r d left left' k
         last-formed left' k h =
             formed-here left' k
-            (subst (λ (x : Scope). Laid (termBytes r) left left' d.top k
-            (normal (gf modulus) (source_of (termBytes r) left a ++ outputTerms (termBytes r) left d x r.outputs
+            (subst (λ (x : Scope). Laid (term_bytes r) left left' d.top k
+            (normal (gf modulus) (source_of (term_bytes r) left a ++ output_terms (term_bytes r) left d x r.outputs
             r.named))) e h)
 
 -- ---- where the scopes come of calls
 
 -- where the result is found
-pub located-at : (r : code.Routine) (d : Shelf) (s : Scope) (a : Source) → s ≡ originScope r
+pub located_at : (r : code.Routine) (d : Shelf) (s : Scope) (a : Source) → s ≡ origin_scope r
     → Located s d (Place r.result) a
-    → Located (originScope r) d (Place r.result) a
-located-at r d s a e h = subst (λ (x : Scope). Located x d (Place r.result) a) e h
+    → Located (origin_scope r) d (Place r.result) a
+located_at r d s a e h = subst (λ (x : Scope). Located x d (Place r.result) a) e h
 
-module _ {r : code.Routine} (Q : Ready r) {d : Shelf} (D : Directed r d) {s t : Scope} (e : s ≡ originScope r)
-    (f : t ≡ maskedScope r) where
+module _ {r : code.Routine} (Q : Ready r) {d : Shelf} (D : Directed r d) {s t : Scope} (e : s ≡ origin_scope r)
+    (f : t ≡ masked_scope r) where
   -- the origin block's places can be found
   pub origin-narrow-at : Narrow s d
   origin-narrow-at = subst (λ (x : Scope). Narrow x d) (sym e) (origin-narrow Q D)

@@ -6,13 +6,13 @@ use mathlib.Core.Bool.{Bool, true, false, cond}
 use mathlib.Core.List.{List}
 use lib.Dec.{eqb}
 use borrow.Author.Tests.{eqb-true}
-use Rattle.tokens.specs.Limits.{mostShares}
+use Rattle.tokens.specs.Limits.{most_shares}
 use Rattle.lines.specs.declared.known.Known.{Known}
-use Rattle.rules.specs.Order.{inMasked}
-use Rattle.rules.specs.Limits.{mostMaps, mostInputs, mostVariables, mostStatements, mostEntries, mostNames}
-use Rattle.rules.specs.Limits.{originFrom, maskedFrom}
-use Rattle.lines.specs.Known.{Sound, maskedNames, originNames}
-use Rattle.lines.specs.Added.{blank, counting, inputAdded, originMore, maskedMore, InputFits, StatementsFit}
+use Rattle.rules.specs.Order.{in_masked}
+use Rattle.rules.specs.Limits.{most_maps, most_inputs, most_variables, most_statements, most_entries, most_names}
+use Rattle.rules.specs.Limits.{origin_from, masked_from}
+use Rattle.lines.specs.Known.{Sound, masked_names, origin_names}
+use Rattle.lines.specs.Added.{blank, counting, input_added, origin_more, masked_more, InputFits, StatementsFit}
 
 -- before the first line
 none-sound : Sound blank
@@ -36,9 +36,9 @@ blank-sound k e = subst Sound (sym e) none-sound
 
 module _ (k : Known) (K : Sound k) where
   -- another stage, share count, count of maps, result or outputs
-  pub steady : (stage shares mapped result : ℕ) (outputs : List ℕ) (named : ℕ) → shares ≤ 255 → mapped ≤ mostMaps
-      → named ≤ mostShares
-      → (stage < inMasked → k.masked ≡ 0)
+  pub steady : (stage shares mapped result : ℕ) (outputs : List ℕ) (named : ℕ) → shares ≤ 255 → mapped ≤ most_maps
+      → named ≤ most_shares
+      → (stage < in_masked → k.masked ≡ 0)
       → Sound
       (record {
         stage = stage;
@@ -68,8 +68,8 @@ module _ (k : Known) (K : Sound k) where
       }
 
   -- other counts
-  counts-sound : (i v o m w p : ℕ) → i ≤ mostInputs → v ≤ mostVariables → o + m ≤ mostStatements → w ≡ i + o
-      → p ≤ v + m → (k.stage < inMasked → m ≡ 0) → Sound (counting k i v o m w p)
+  counts-sound : (i v o m w p : ℕ) → i ≤ most_inputs → v ≤ most_variables → o + m ≤ most_statements → w ≡ i + o
+      → p ≤ v + m → (k.stage < in_masked → m ≡ 0) → Sound (counting k i v o m w p)
   counts-sound i v o m w p inputs variables statements wholes parts apart =
       record {
         shares = K.shares;
@@ -84,33 +84,33 @@ module _ (k : Known) (K : Sound k) where
       }
 
   -- one input more
-  pub input-sound : InputFits k → Sound (inputAdded k)
+  pub input-sound : InputFits k → Sound (input_added k)
   input-sound f =
       counts-sound _ _ _ _ _ _ (omega (arith, f.0)) f.1 K.statements (omega (arith, K.wholes))
       (omega (arith, K.parts)) K.apart
 
   module _ (n : ℕ) (f : StatementsFit k n) where
     -- so many entries more of either set are in the table
-    pub slots-le : (b : Bool) → cond b (maskedFrom + k.parts) (originFrom + k.wholes) + n ≤ mostEntries
-    slots-le true = omega (arith, K.parts, K.variables, f.1)
-    slots-le false = omega (arith, K.wholes, K.inputs, f.1)
+    pub slots_le : (b : Bool) → cond b (masked_from + k.parts) (origin_from + k.wholes) + n ≤ most_entries
+    slots_le true = omega (arith, K.parts, K.variables, f.1)
+    slots_le false = omega (arith, K.wholes, K.inputs, f.1)
 
     -- so many values more of either set have places
-    pub places-le : (b : Bool) → (cond b (maskedNames k) (originNames k)).count + n ≤ mostNames
-    places-le true = omega (arith, K.parts, K.variables, f.1)
-    places-le false = omega (arith, K.wholes, K.inputs, f.1)
+    pub places_le : (b : Bool) → (cond b (masked_names k) (origin_names k)).count + n ≤ most_names
+    places_le true = omega (arith, K.parts, K.variables, f.1)
+    places_le false = omega (arith, K.wholes, K.inputs, f.1)
 
     -- so many statements more in their block
-    pub stated-sound : (drawn : ℕ) → k.variables + drawn ≤ mostVariables → (b : Bool) → eqb k.stage inMasked ≡ b
-        → Sound (cond b (maskedMore k drawn n) (originMore k n))
+    pub stated-sound : (drawn : ℕ) → k.variables + drawn ≤ most_variables → (b : Bool) → eqb k.stage in_masked ≡ b
+        → Sound (cond b (masked_more k drawn n) (origin_more k n))
     stated-sound drawn few true e =
         counts-sound _ _ _ _ _ _ K.inputs few (omega (arith, f.1)) K.wholes (omega (arith, K.parts))
-        (λ l. absurd (omega (arith, eqb-true k.stage inMasked e, l)))
+        (λ l. absurd (omega (arith, eqb-true k.stage in_masked e, l)))
     stated-sound drawn few false e =
         counts-sound _ _ _ _ _ _ K.inputs K.variables (omega (arith, f.1)) (omega (arith, K.wholes)) K.parts
         K.apart
 
     -- they leave the stage
-    pub stated-stage : (drawn : ℕ) (b : Bool) → (cond b (maskedMore k drawn n) (originMore k n)).stage ≡ k.stage
+    pub stated-stage : (drawn : ℕ) (b : Bool) → (cond b (masked_more k drawn n) (origin_more k n)).stage ≡ k.stage
     stated-stage drawn true = refl
     stated-stage drawn false = refl

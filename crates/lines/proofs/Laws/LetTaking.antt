@@ -8,124 +8,124 @@ use mathlib.Core.Option.{Option, none, some, none-ne-some}
 use lib.Dec.{ltb, eqb}
 use lib.ListN.{length, take, drop}
 use borrow.Author.Tests.{ltb-false, le-ltb, lt-ltb}
-use Rattle.tokens.specs.Limits.{mostDepth}
+use Rattle.tokens.specs.Limits.{most_depth}
 use Rattle.tokens.specs.Split.{SpanIs}
 use Rattle.tokens.specs.Token.{Name}
 use Rattle.grammar.specs.declared.line.Line.{Line}
 use Rattle.grammar.specs.declared.formula.FormulaRead.{FormulaRead}
 use Rattle.grammar.specs.declared.line.NameRef.{NameRef}
-use Rattle.grammar.specs.Formula.{Formula, depth, operations, readFormula}
-use Rattle.grammar.specs.Line.{nameIn, piecesIn, fieldIn}
+use Rattle.grammar.specs.Formula.{Formula, depth, operations, read_formula}
+use Rattle.grammar.specs.Line.{name_in, pieces_in, field_in}
 use Rattle.grammar.specs.Measured.{MeasureIs}
 use Rattle.grammar.specs.Record.{Record, letting, nests}
-use Rattle.grammar.specs.Recorded.{letIn, formulaOf}
+use Rattle.grammar.specs.Recorded.{let_in, formula_of}
 use Rattle.rules.specs.declared.types.Statement.{Statement}
 use Rattle.lines.specs.declared.known.Known.{Known}
 use Rattle.lines.specs.declared.known.Setting.{Setting}
 use Rattle.lines.specs.declared.step.Letting.{Letting}
 use Rattle.lines.specs.declared.step.Put.TheVariants.{Nothing, Let}
 use Rattle.lines.specs.declared.step.Step.{Step}
-use Rattle.rules.specs.Limits.{mostStatements}
-use Rattle.rules.specs.Order.{inMasked}
-use Rattle.rules.specs.Stated.{withOriginAll, withMaskedAll}
-use Rattle.rules.specs.Scope.{given, unknownFormula}
-use Rattle.rules.specs.Faults.{repeats, readsUnknown, exceeds, miscounts}
+use Rattle.rules.specs.Limits.{most_statements}
+use Rattle.rules.specs.Order.{in_masked}
+use Rattle.rules.specs.Stated.{with_origin_all, with_masked_all}
+use Rattle.rules.specs.Scope.{given, unknown_formula}
+use Rattle.rules.specs.Faults.{repeats, reads_unknown, exceeds, miscounts}
 use Rattle.rules.specs.Added.{added}
-use Rattle.rules.specs.Scope.{letOps}
-use Rattle.rules.specs.Added.{atLine}
-use Rattle.lookup.specs.Names.{namesIn}
-use Rattle.lines.specs.Lets.{field_of, counted, statementsOf, LetIs, LetWritten, Shallow}
+use Rattle.rules.specs.Scope.{let_ops}
+use Rattle.rules.specs.Added.{at_line}
+use Rattle.lookup.specs.Names.{names_in}
+use Rattle.lines.specs.Lets.{field_of, counted, statements_of, LetIs, LetWritten, Shallow}
 use Rattle.lines.specs.Added.{stated, StatementsFit}
-use Rattle.lines.specs.Known.{Arrays, kept, stateIn, Sound, Sized, mapNames, blockNames}
-use Rattle.lines.specs.Stored.{letStatements, after}
-use Rattle.lines.specs.Taken.{firstFault, step_of, Took}
-use Rattle.rules.proofs.Laws.Letting.{let-length, let-some}
+use Rattle.lines.specs.Known.{Arrays, kept, state_in, Sound, Sized, map_names, block_names}
+use Rattle.lines.specs.Stored.{let_statements, after}
+use Rattle.lines.specs.Taken.{first_fault, step_of, Took}
+use Rattle.rules.proofs.Laws.Letting.{let_length, let_some}
 use Rattle.lines.proofs.Laws.Known.{stated-sound, stated-stage}
-use Rattle.lines.proofs.Laws.Block.{let-means}
-use Rattle.lines.proofs.Laws.Stating.{block-names}
-use Rattle.lines.proofs.Laws.Taking.{Tested, no-faults, took-fault, took-deep, took-grown}
+use Rattle.lines.proofs.Laws.Block.{let_means}
+use Rattle.lines.proofs.Laws.Stating.{block_names_lem}
+use Rattle.lines.proofs.Laws.Taking.{Tested, no_faults, took_fault, took_deep, took_grown}
 use Rattle.lines.proofs.Laws.Taking.{statements-length}
-use Rattle.lines.proofs.Laws.LetWriting.{counted_is, let-stored}
+use Rattle.lines.proofs.Laws.LetWriting.{counted_is, let_stored}
 
 module _ (s t : List ℕ) (here : Setting) (K : Sound here.known) (x : NameRef) (f : Letting) (S : Shallow s f)
     (fl : f.line ≡ here.number)
     (u : Bool) (entry exit : List ℕ) {g m : Bool} {e : ℕ}
-    (W : LetWritten (namesIn s t (blockNames here.known)) (namesIn s t (mapNames here.known)) entry exit u
-    (readFormula (field_of s f)))
-    (w : e ≡ firstFault here.stands g u m false)
-    (gq : g ≡ given (nameIn s x) (namesIn s t (blockNames here.known)))
-    (mq : m ≡ ltb mostStatements (here.known.origin + here.known.masked + f.count)) where
+    (W : LetWritten (names_in s t (block_names here.known)) (names_in s t (map_names here.known)) entry exit u
+    (read_formula (field_of s f)))
+    (w : e ≡ first_fault here.stands g u m false)
+    (gq : g ≡ given (name_in s x) (names_in s t (block_names here.known)))
+    (mq : m ≡ ltb most_statements (here.known.origin + here.known.masked + f.count)) where
   abbrev k : Known
   k = here.known
 
   abbrev ms : List Name
-  ms = namesIn s t (blockNames k)
+  ms = names_in s t (block_names k)
 
   abbrev maps : List Name
-  maps = namesIn s t (mapNames k)
+  maps = names_in s t (map_names k)
 
   abbrev rec : Record
-  rec = letting (nameIn s x) S.formula
+  rec = letting (name_in s x) S.formula
 
-  read : some rec ≡ letIn (nameIn s x) (readFormula (field_of s f))
-  read = ap (letIn (nameIn s x)) (sym S.read)
+  read : some rec ≡ let_in (name_in s x) (read_formula (field_of s f))
+  read = ap (let_in (name_in s x)) (sym S.read)
 
   looked : LetIs ms maps entry exit u S.formula
   looked = subst (λ (o : Option Formula). LetWritten ms maps entry exit u o) S.read W
 
-  tests : (a : Arrays) → Sized (kept t k a) → Tested (stateIn s (kept t k a)) rec g u m false
-  unfolding repeats readsUnknown exceeds miscounts stateIn nests
+  tests : (a : Arrays) → Sized (kept t k a) → Tested (state_in s (kept t k a)) rec g u m false
+  unfolding repeats reads_unknown exceeds miscounts state_in nests
   tests a z =
-      let same = block-names s t k a in
+      let same = block_names_lem s t k a in
       record {
-        repeats = gq ∙ ap (given (nameIn s x)) same;
-        unknown = looked.unknown ∙ ap (λ (ns : List Name). unknownFormula ns maps S.formula) same;
-        exceeds = mq ∙ (λ i. ltb mostStatements (sym (statements-length s (kept t k a) K z) i + S.count i));
+        repeats = gq ∙ ap (given (name_in s x)) same;
+        unknown = looked.unknown ∙ ap (λ (ns : List Name). unknown_formula ns maps S.formula) same;
+        exceeds = mq ∙ (λ i. ltb most_statements (sym (statements-length s (kept t k a) K z) i + S.count i));
         miscounts = refl;
         shallow = le-ltb _ _ S.shallow;
       }
 
   -- the `let` has a fault
-  pub let-fault : (e ≡ 0 → ⊥) → {p : Step} → p ≡ step_of e k Nothing
-      → Took s t exit here (letIn (nameIn s x) (readFormula (field_of s f))) p
-  let-fault z = took-fault s t here K rec read w z tests
+  pub let_fault : (e ≡ 0 → ⊥) → {p : Step} → p ≡ step_of e k Nothing
+      → Took s t exit here (let_in (name_in s x) (read_formula (field_of s f))) p
+  let_fault z = took_fault s t here K rec read w z tests
 
   -- so many statements more are within the limits
-  pub let-fits : e ≡ 0 → StatementsFit k f.count
-  let-fits z =
-      let free = no-faults here.stands g u m false w z in
-      let few = ltb-false mostStatements (k.origin + k.masked + f.count) (sym mq ∙ free.3) in
-      (omega (arith, S.count, let-some S.formula), few)
+  pub let_fits : e ≡ 0 → StatementsFit k f.count
+  let_fits z =
+      let free = no_faults here.stands g u m false w z in
+      let few = ltb-false most_statements (k.origin + k.masked + f.count) (sym mq ∙ free.3) in
+      (omega (arith, S.count, let_some S.formula), few)
 
-  read_as : letStatements s t k f ≡ atLine f.line (letOps ms maps (length ms) S.formula)
-  read_as = ap (statementsOf f.line ms maps) S.read
+  read_as : let_statements s t k f ≡ at_line f.line (let_ops ms maps (length ms) S.formula)
+  read_as = ap (statements_of f.line ms maps) S.read
 
-  grown : StatementsFit k f.count → k.stage ≤ inMasked → (a : Arrays) → Sized (kept t k a)
-      → stateIn s (after s (kept t k a) (step_of 0 (stated k 0 f.count) (Let x f)))
-      ≡ added here.number rec (stateIn s (kept t k a))
-  unfolding added stateIn
+  grown : StatementsFit k f.count → k.stage ≤ in_masked → (a : Arrays) → Sized (kept t k a)
+      → state_in s (after s (kept t k a) (step_of 0 (stated k 0 f.count) (Let x f)))
+      ≡ added here.number rec (state_in s (kept t k a))
+  unfolding added state_in
   grown fit low a z =
-      let st = stateIn s (kept t k a) in
+      let st = state_in s (kept t k a) in
       let long = ap (λ (l : List Statement). length l) read_as
-      ∙ let-length ms maps (length ms) f.line S.formula ∙ sym S.count in
+      ∙ let_length ms maps (length ms) f.line S.formula ∙ sym S.count in
       let q = read_as
-      ∙ (λ i. let ns = block-names s t k a i in atLine (fl i) (letOps ns maps (length ns) S.formula)) in
-      let-means s (kept t k a) K z x f fit low long
-      ∙ (λ i. cond (eqb k.stage inMasked) (withMaskedAll (nameIn s x) (q i) st)
-      (withOriginAll (nameIn s x) (q i) st))
+      ∙ (λ i. let ns = block_names_lem s t k a i in at_line (fl i) (let_ops ns maps (length ns) S.formula)) in
+      let_means s (kept t k a) K z x f fit low long
+      ∙ (λ i. cond (eqb k.stage in_masked) (with_masked_all (name_in s x) (q i) st)
+      (with_origin_all (name_in s x) (q i) st))
 
   -- the `let` is taken
-  pub let-grown : e ≡ 0 → k.stage ≤ inMasked → {p : Step} → p ≡ step_of 0 (stated k 0 f.count) (Let x f)
-      → Took s t exit here (letIn (nameIn s x) (readFormula (field_of s f))) p
+  pub let_grown : e ≡ 0 → k.stage ≤ in_masked → {p : Step} → p ≡ step_of 0 (stated k 0 f.count) (Let x f)
+      → Took s t exit here (let_in (name_in s x) (read_formula (field_of s f))) p
   unfolding step_of
-  let-grown z low q =
-      let fit = let-fits z in
-      let free = no-faults here.stands g u m false w z in
-      let held = let-stored s t k K x f fit S (sym looked.unknown ∙ free.2) entry exit u looked in
-      subst (Took s t exit here (letIn (nameIn s x) (readFormula (field_of s f)))) (sym q)
-      (took-grown s t here K rec read (step_of 0 (stated k 0 f.count) (Let x f)) (sym z ∙ w)
-      (stated-stage k K f.count fit 0 (eqb k.stage inMasked))
-      (stated-sound k K f.count fit 0 (omega (arith, K.variables)) (eqb k.stage inMasked) refl) fit held tests
+  let_grown z low q =
+      let fit = let_fits z in
+      let free = no_faults here.stands g u m false w z in
+      let held = let_stored s t k K x f fit S (sym looked.unknown ∙ free.2) entry exit u looked in
+      subst (Took s t exit here (let_in (name_in s x) (read_formula (field_of s f)))) (sym q)
+      (took_grown s t here K rec read (step_of 0 (stated k 0 f.count) (Let x f)) (sym z ∙ w)
+      (stated-stage k K f.count fit 0 (eqb k.stage in_masked))
+      (stated-sound k K f.count fit 0 (omega (arith, K.variables)) (eqb k.stage in_masked) refl) fit held tests
       (grown fit low))
 
 -- ---- a line's formula
@@ -154,18 +154,18 @@ field-two : (b : Bool) (o : Option Formula) (e : Formula) → cond b o none ≡ 
 field-two true o e h = refl
 field-two false o e h = absurd (none-ne-some e h)
 
-module _ (s : List ℕ) (l : Line) (r : FormulaRead) (M : Measured r (formulaOf (piecesIn s l))) (f : Letting) where
+module _ (s : List ℕ) (l : Line) (r : FormulaRead) (M : Measured r (formula_of (pieces_in s l))) (f : Letting) where
   -- the formula stands in the field
-  pub line-field : take f.len (drop f.at s) ≡ fieldIn s l 2
-      → readFormula (field_of s f) ≡ formulaOf (piecesIn s l)
-  unfolding formulaOf
+  pub line-field : take f.len (drop f.at s) ≡ field_in s l 2
+      → read_formula (field_of s f) ≡ formula_of (pieces_in s l)
+  unfolding formula_of
   line-field h =
-      ap readFormula h
-      ∙ field-two (eqb (length (piecesIn s l)) 3) (readFormula (fieldIn s l 2)) M.formula M.here
+      ap read_formula h
+      ∙ field-two (eqb (length (pieces_in s l)) 3) (read_formula (field_in s l 2)) M.formula M.here
 
   -- it does not nest too deep
-  pub line-shallow : SpanIs s f.at f.len (fieldIn s l 2) → f.count ≡ counted r.operations
-      → r.depth ≤ mostDepth → Shallow s f
+  pub line-shallow : SpanIs s f.at f.len (field_in s l 2) → f.count ≡ counted r.operations
+      → r.depth ≤ most_depth → Shallow s f
   line-shallow P c d =
       record {
         formula = M.formula;
@@ -177,9 +177,9 @@ module _ (s : List ℕ) (l : Line) (r : FormulaRead) (M : Measured r (formulaOf 
 
 -- it nests too deep
 pub line-deep : (s t : List ℕ) (here : Setting) → Sound here.known → (x : NameRef) (r : FormulaRead)
-    (o : Option Formula) {codes : List ℕ} → Measured r o → mostDepth < r.depth
-    → {p : Step} → p ≡ step_of 13 here.known Nothing → Took s t codes here (letIn (nameIn s x) o) p
+    (o : Option Formula) {codes : List ℕ} → Measured r o → most_depth < r.depth
+    → {p : Step} → p ≡ step_of 13 here.known Nothing → Took s t codes here (let_in (name_in s x) o) p
 unfolding nests
 line-deep s t here K x r o M h =
-    took-deep s t here K (letting (nameIn s x) M.formula) (ap (letIn (nameIn s x)) (sym M.here))
-    (lt-ltb mostDepth (depth M.formula) (omega (arith, M.depth, h)))
+    took_deep s t here K (letting (name_in s x) M.formula) (ap (let_in (name_in s x)) (sym M.here))
+    (lt-ltb most_depth (depth M.formula) (omega (arith, M.depth, h)))

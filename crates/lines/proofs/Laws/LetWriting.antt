@@ -13,40 +13,40 @@ use lib.ListN.{length-drop}
 use borrow.Author.Tests.{ne_eqb}
 use Rattle.tokens.specs.Token.{◌>>=◌, provided, Name}
 use Rattle.grammar.specs.Formula.{Formula, Parsed, operand, xor, mul, app, operations, parsed, whole}
-use Rattle.grammar.specs.Formula.{readFormula}
+use Rattle.grammar.specs.Formula.{read_formula}
 use Rattle.grammar.specs.declared.line.NameRef.{NameRef}
 use Rattle.rules.specs.declared.types.Op.TheVariants.{Set}
 use Rattle.lines.specs.declared.step.Put.TheVariants.{Let}
 use Rattle.lookup.specs.declared.compile.Compiled.{Compiled}
-use Rattle.rules.specs.Limits.{mostStatements}
-use Rattle.rules.specs.Scope.{unknownFormula, value_of, letCount, letOps, compiled}
-use Rattle.lookup.specs.Coded.{putOp, written}
+use Rattle.rules.specs.Limits.{most_statements}
+use Rattle.rules.specs.Scope.{unknown_formula, value_of, let_count, let_ops, compiled}
+use Rattle.lookup.specs.Coded.{put_op, written}
 use Rattle.lookup.specs.Compiled.{CompileIs, Compiles, Room}
 use Rattle.lines.specs.declared.known.Known.{Known}
 use Rattle.lookup.specs.declared.names.Names.{Names}
 use Rattle.lines.specs.declared.step.Letting.{Letting}
-use Rattle.rules.specs.Limits.{mostNames}
-use Rattle.rules.specs.Order.{inMasked}
-use Rattle.lookup.specs.Names.{namesIn, Within}
+use Rattle.rules.specs.Limits.{most_names}
+use Rattle.rules.specs.Order.{in_masked}
+use Rattle.lookup.specs.Names.{names_in, Within}
 use Rattle.lookup.specs.Compiled.{Looks}
-use Rattle.lines.specs.Known.{Sound, blockNames, mapNames, maskedNames, originNames}
+use Rattle.lines.specs.Known.{Sound, block_names, map_names, masked_names, origin_names}
 use Rattle.lines.specs.Stored.{LetsHeld}
-use Rattle.lines.specs.Lets.{field_of, statementsOf, counted, LetRoom, LetIs}
+use Rattle.lines.specs.Lets.{field_of, statements_of, counted, LetRoom, LetIs}
 use Rattle.lines.specs.Added.{StatementsFit}
 use Rattle.lines.specs.Lets.{LetWritten, Shallow}
-use Rattle.lines.specs.Given.{givenFrom}
+use Rattle.lines.specs.Given.{given_from}
 use Rattle.grammar.proofs.Laws.Holding.{Holds, FormedFormula, formula-formed}
 use Rattle.lookup.proofs.Laws.Named.{listed-length}
 use Rattle.lookup.proofs.Laws.Decoding.{written-length}
-use Rattle.lines.proofs.Laws.Known.{places-le}
+use Rattle.lines.proofs.Laws.Known.{places_le}
 use Rattle.rules.proofs.Laws.Letting.{shallow-few}
-use Rattle.lines.proofs.Laws.LetDecoding.{let-back}
+use Rattle.lines.proofs.Laws.LetDecoding.{let_back}
 
 -- ---- how many statements there are
 
 -- as many statements as its operations count as
-pub counted_is : (e : Formula) → counted (operations e) ≡ letCount e
-unfolding operations letCount
+pub counted_is : (e : Formula) → counted (operations e) ≡ let_count e
+unfolding operations let_count
 counted_is (operand a) = refl
 counted_is (xor a b) = simp (ne_eqb (operations a + operations b + 1) 0 (λ e. omega arith))
 counted_is (mul a b) = simp (ne_eqb (operations a + operations b + 1) 0 (λ e. omega arith))
@@ -54,7 +54,7 @@ counted_is (app f a) = simp (ne_eqb (operations a + 1) 0 (λ e. omega arith))
 
 -- ---- a formula with nothing behind it
 
-whole_room : (b : Bool) (e : Formula) → LetRoom (provided b e) → operations e ≤ mostStatements
+whole_room : (b : Bool) (e : Formula) → LetRoom (provided b e) → operations e ≤ most_statements
 whole_room true e h = h
 whole_room false e h = absurd h
 
@@ -65,8 +65,8 @@ parsed-room (some p) h =
     let r = whole_room (eqb (length p.1) 0) p.0 h in omega (arith, r)
 
 -- there is room for what is read in a field
-pub field_room : (f : List ℕ) → LetRoom (readFormula f) → Room 0 (parsed f)
-unfolding readFormula
+pub field_room : (f : List ℕ) → LetRoom (read_formula f) → Room 0 (parsed f)
+unfolding read_formula
 field_room f h = parsed-room (parsed f) h
 
 module _ (ms maps : List Name) (base : ℕ) (b : base ≡ length ms) (f entry mid exit : List ℕ) (r : Compiled) where
@@ -76,12 +76,12 @@ module _ (ms maps : List Name) (base : ℕ) (b : base ≡ length ms) (f entry mi
   module _ (u : List ℕ) where
     -- an operand alone
     alone : (e : Formula) → CompileIs ms maps base 0 0 f entry mid r e u → r.done ≡ 0
-        → exit ≡ putOp mid 0 (Set r.operand) → LetIs ms maps entry exit r.unknown e
-    unfolding written letOps compiled value_of operations
+        → exit ≡ put_op mid 0 (Set r.operand) → LetIs ms maps entry exit r.unknown e
+    unfolding written let_ops compiled value_of operations
     alone (operand a) C z q =
         record {
           unknown = C.unknown;
-          codes = q ∙ (λ i. putOp (C.codes i) 0 (Set (C.operand i)));
+          codes = q ∙ (λ i. put_op (C.codes i) 0 (Set (C.operand i)));
         }
     alone (xor a c) C z q = let d = C.done in absurd (omega (arith, z, d))
     alone (mul a c) C z q = let d = C.done in absurd (omega (arith, z, d))
@@ -90,7 +90,7 @@ module _ (ms maps : List Name) (base : ℕ) (b : base ≡ length ms) (f entry mi
     -- one operation at least
     several : (e : Formula) → CompileIs ms maps base 0 0 f entry mid r e u → (r.done ≡ 0 → ⊥)
         → exit ≡ mid → LetIs ms maps entry exit r.unknown e
-    unfolding letOps operations
+    unfolding let_ops operations
     several (operand a) C z q = absurd (z C.done)
     several (xor a c) C z q =
         record {
@@ -123,51 +123,51 @@ module _ (ms maps : List Name) (base : ℕ) (b : base ≡ length ms) (f entry mi
 
   -- the formula of the field is an operand alone
   pub written-alone : Compiles ms maps base 0 0 f entry mid r (parsed f) → r.done ≡ 0
-      → exit ≡ putOp mid 0 (Set r.operand) → LetWritten ms maps entry exit r.unknown (readFormula f)
-  unfolding readFormula
+      → exit ≡ put_op mid 0 (Set r.operand) → LetWritten ms maps entry exit r.unknown (read_formula f)
+  unfolding read_formula
   written-alone C z q = parsed-is (parsed f) C (λ e u D. alone u e D z q)
 
   -- the formula of the field has operations
   pub written-several : Compiles ms maps base 0 0 f entry mid r (parsed f) → (r.done ≡ 0 → ⊥) → exit ≡ mid
-      → LetWritten ms maps entry exit r.unknown (readFormula f)
-  unfolding readFormula
+      → LetWritten ms maps entry exit r.unknown (read_formula f)
+  unfolding read_formula
   written-several C z q = parsed-is (parsed f) C (λ e u D. several u e D z q)
 
 -- ---- as the code has it
 
-names-count : (s t : List ℕ) (n : Names) → n.count ≡ length (namesIn s t n)
-unfolding namesIn
+names-count : (s t : List ℕ) (n : Names) → n.count ≡ length (names_in s t n)
+unfolding names_in
 names-count s t n = sym (listed-length s t n.from n.count)
 
-block-few : (k : Known) → Sound k → (b : Bool) → (cond b (maskedNames k) (originNames k)).count ≤ mostNames
+block-few : (k : Known) → Sound k → (b : Bool) → (cond b (masked_names k) (origin_names k)).count ≤ most_names
 block-few k K true = omega (arith, K.parts, K.variables, K.statements)
 block-few k K false = omega (arith, K.wholes, K.inputs, K.statements)
 
-let-few : (e : Formula) → letCount e ≤ operations e + 1
-unfolding operations letCount
-let-few (operand a) = omega arith
-let-few (xor a b) = omega arith
-let-few (mul a b) = omega arith
-let-few (app f a) = omega arith
+let_few : (e : Formula) → let_count e ≤ operations e + 1
+unfolding operations let_count
+let_few (operand a) = omega arith
+let_few (xor a b) = omega arith
+let_few (mul a b) = omega arith
+let_few (app f a) = omega arith
 
 -- it counts as few statements
-pub shallow-count : (s : List ℕ) (f : Letting) → Shallow s f → f.count ≤ mostStatements
-shallow-count s f S = omega (arith, S.count, let-few S.formula, shallow-few S.formula S.shallow)
+pub shallow-count : (s : List ℕ) (f : Letting) → Shallow s f → f.count ≤ most_statements
+shallow-count s f S = omega (arith, S.count, let_few S.formula, shallow-few S.formula S.shallow)
 
 -- there is room for a formula that does not nest too deep
-pub shallow_fits : (s : List ℕ) (f : Letting) → Shallow s f → LetRoom (readFormula (field_of s f))
+pub shallow_fits : (s : List ℕ) (f : Letting) → Shallow s f → LetRoom (read_formula (field_of s f))
 shallow_fits s f S = subst LetRoom (sym S.read) (omega (arith, shallow-few S.formula S.shallow))
 
-module _ (s t : List ℕ) (k : Known) (f : Letting) (n : Names) (e : n ≡ blockNames k) (p : List ℕ) (q : p ≡ field_of s f)
+module _ (s t : List ℕ) (k : Known) (f : Letting) (n : Names) (e : n ≡ block_names k) (p : List ℕ) (q : p ≡ field_of s f)
   where
     -- the names and the field are in their places
-    pub let-looks : Sound k → Within n → f.at + f.len ≤ length s
-        → Looks s p (record { names = n; maps = mapNames k; from = f.at; base = n.count })
-    let-looks K w h =
+    pub let_looks : Sound k → Within n → f.at + f.len ≤ length s
+        → Looks s p (record { names = n; maps = map_names k; from = f.at; base = n.count })
+    let_looks K w h =
         let size : length p ≡ f.len = ap (λ (l : List ℕ). length l) q
         ∙ length-take-le f.len (drop f.at s) (omega (arith, length-drop f.at s)) in
-        let few : n.count ≤ mostNames =
-        subst (λ (m : Names). m.count ≤ mostNames) (sym e) (block-few k K (eqb k.stage inMasked)) in
+        let few : n.count ≤ most_names =
+        subst (λ (m : Names). m.count ≤ most_names) (sym e) (block-few k K (eqb k.stage in_masked)) in
         record {
           names = w;
           maps = omega (arith, K.mapped);
@@ -177,63 +177,63 @@ module _ (s t : List ℕ) (k : Known) (f : Letting) (n : Names) (e : n ≡ block
         }
 
     -- there is room for the operations
-    pub let-room : LetRoom (readFormula (field_of s f)) → Room 0 (parsed p)
-    let-room h = field_room p (subst (λ (l : List ℕ). LetRoom (readFormula l)) (sym q) h)
+    pub let_room : LetRoom (read_formula (field_of s f)) → Room 0 (parsed p)
+    let_room h = field_room p (subst (λ (l : List ℕ). LetRoom (read_formula l)) (sym q) h)
 
     module _ (entry mid exit : List ℕ) (r : Compiled)
-        (C : Compiles (namesIn s t n) (namesIn s t (mapNames k)) n.count 0 0 p entry mid r (parsed p)) where
-      told : LetWritten (namesIn s t n) (namesIn s t (mapNames k)) entry exit r.unknown (readFormula p)
-          → LetWritten (namesIn s t (blockNames k)) (namesIn s t (mapNames k)) entry exit r.unknown
-          (readFormula (field_of s f))
+        (C : Compiles (names_in s t n) (names_in s t (map_names k)) n.count 0 0 p entry mid r (parsed p)) where
+      told : LetWritten (names_in s t n) (names_in s t (map_names k)) entry exit r.unknown (read_formula p)
+          → LetWritten (names_in s t (block_names k)) (names_in s t (map_names k)) entry exit r.unknown
+          (read_formula (field_of s f))
       told h =
-          subst (λ (l : List ℕ). LetWritten (namesIn s t (blockNames k)) (namesIn s t (mapNames k)) entry exit
-          r.unknown (readFormula l)) q
-          (subst (λ (m : Names). LetWritten (namesIn s t m) (namesIn s t (mapNames k)) entry exit r.unknown
-          (readFormula p)) e h)
+          subst (λ (l : List ℕ). LetWritten (names_in s t (block_names k)) (names_in s t (map_names k)) entry exit
+          r.unknown (read_formula l)) q
+          (subst (λ (m : Names). LetWritten (names_in s t m) (names_in s t (map_names k)) entry exit r.unknown
+          (read_formula p)) e h)
 
       -- an operand alone is written as a `set`
-      pub let-alone : r.done ≡ 0 → exit ≡ putOp mid 0 (Set r.operand)
-          → LetWritten (namesIn s t (blockNames k)) (namesIn s t (mapNames k)) entry exit r.unknown
-          (readFormula (field_of s f))
-      let-alone z x =
-          told (written-alone (namesIn s t n) (namesIn s t (mapNames k)) n.count (names-count s t n) p entry mid
+      pub let_alone_lem : r.done ≡ 0 → exit ≡ put_op mid 0 (Set r.operand)
+          → LetWritten (names_in s t (block_names k)) (names_in s t (map_names k)) entry exit r.unknown
+          (read_formula (field_of s f))
+      let_alone_lem z x =
+          told (written-alone (names_in s t n) (names_in s t (map_names k)) n.count (names-count s t n) p entry mid
           exit r C z x)
 
       -- the operations are those of the `let`
-      pub let-several : (r.done ≡ 0 → ⊥) → exit ≡ mid
-          → LetWritten (namesIn s t (blockNames k)) (namesIn s t (mapNames k)) entry exit r.unknown
-          (readFormula (field_of s f))
-      let-several z x =
-          told (written-several (namesIn s t n) (namesIn s t (mapNames k)) n.count (names-count s t n) p entry mid
+      pub let_several : (r.done ≡ 0 → ⊥) → exit ≡ mid
+          → LetWritten (names_in s t (block_names k)) (names_in s t (map_names k)) entry exit r.unknown
+          (read_formula (field_of s f))
+      let_several z x =
+          told (written-several (names_in s t n) (names_in s t (map_names k)) n.count (names-count s t n) p entry mid
           exit r C z x)
 
-let-size : (ms maps : List Name) (entry exit : List ℕ) (u : Bool) (e : Formula) → LetIs ms maps entry exit u e
+let_size : (ms maps : List Name) (entry exit : List ℕ) (u : Bool) (e : Formula) → LetIs ms maps entry exit u e
     → length exit ≡ length entry
-let-size ms maps entry exit u e L =
-    ap (λ (c : List ℕ). length c) L.codes ∙ written-length entry 0 (letOps ms maps (length ms) e)
+let_size ms maps entry exit u e L =
+    ap (λ (c : List ℕ). length c) L.codes ∙ written-length entry 0 (let_ops ms maps (length ms) e)
 
 -- the array keeps its size
 pub written-size : (ms maps : List Name) (entry exit : List ℕ) (u : Bool) (o : Option Formula) → LetRoom o
     → LetWritten ms maps entry exit u o → length exit ≡ length entry
 written-size ms maps entry exit u none h W = absurd h
-written-size ms maps entry exit u (some e) h W = let-size ms maps entry exit u e W
+written-size ms maps entry exit u (some e) h W = let_size ms maps entry exit u e W
 
 -- the statements of a `let`, read back from where they were written
-pub let-stored : (s t : List ℕ) (k : Known) → Sound k → (x : NameRef) (f : Letting) → StatementsFit k f.count
+pub let_stored : (s t : List ℕ) (k : Known) → Sound k → (x : NameRef) (f : Letting) → StatementsFit k f.count
     → (S : Shallow s f)
-    → unknownFormula (namesIn s t (blockNames k)) (namesIn s t (mapNames k)) S.formula ≡ false
+    → unknown_formula (names_in s t (block_names k)) (names_in s t (map_names k)) S.formula ≡ false
     → (entry exit : List ℕ) (u : Bool)
-    → LetIs (namesIn s t (blockNames k)) (namesIn s t (mapNames k)) entry exit u S.formula
+    → LetIs (names_in s t (block_names k)) (names_in s t (map_names k)) entry exit u S.formula
     → LetsHeld s t exit k (Let x f)
-let-stored s t k K x f F S known entry exit u L size =
-    let ms = namesIn s t (blockNames k) in
-    let maps = namesIn s t (mapNames k) in
+let_stored s t k K x f F S known entry exit u L size =
+    let ms = names_in s t (block_names k) in
+    let maps = names_in s t (map_names k) in
     let formed : FormedFormula S.formula =
     subst (λ (o : Option Formula). Holds FormedFormula o) S.read (formula-formed (field_of s f)) in
-    let few : length ms + f.count ≤ mostNames =
-    omega (arith, names-count s t (blockNames k), places-le k K f.count F (eqb k.stage inMasked)) in
+    let few : length ms + f.count ≤ most_names =
+    omega (arith, names-count s t (block_names k), places_le k K f.count F (eqb k.stage in_masked)) in
     let room : 3 * f.count ≤ length entry =
-    omega (arith, size, let-size ms maps entry exit u S.formula L, F.1) in
-    ap (λ (c : List ℕ). givenFrom c (Let x f) 0 f.count) L.codes
-    ∙ let-back ms maps x f S.formula entry f.count formed known few S.count room
-    ∙ ap (statementsOf f.line ms maps) (sym S.read)
+    omega (arith, size, let_size ms maps entry exit u S.formula L, F.1) in
+    ap (λ (c : List ℕ). given_from c (Let x f) 0 f.count) L.codes
+    ∙ let_back ms maps x f S.formula entry f.count formed known few S.count room
+    ∙ ap (statements_of f.line ms maps) (sym S.read)

@@ -20,7 +20,7 @@ state_of k inputs variables ns fs on os mn ms =
     record {
       stage = k.stage;
       shares = k.shares;
-      mapNames = ns;
+      map_names = ns;
       maps = fs;
       inputs = inputs;
       variables = variables;

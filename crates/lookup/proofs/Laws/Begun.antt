@@ -18,23 +18,23 @@ use Rattle.rules.specs.declared.types.Operand.TheVariants.{Place}
 use Rattle.rules.specs.declared.types.Op.{Op}
 use Rattle.rules.specs.declared.types.Op.TheVariants as Op
 use Rattle.lookup.specs.declared.compile.Compiled.{Compiled}
-use Rattle.rules.specs.Limits.{mostStatements}
-use Rattle.rules.specs.Scope.{unknownFormula, value_of, compiled}
+use Rattle.rules.specs.Limits.{most_statements}
+use Rattle.rules.specs.Scope.{unknown_formula, value_of, compiled}
 use Rattle.lookup.specs.Found.{operated}
-use Rattle.lookup.specs.Coded.{putOp, written}
-use Rattle.lookup.specs.Compiled.{compiledOf, CompileIs, Compiles, Room}
+use Rattle.lookup.specs.Coded.{put_op, written}
+use Rattle.lookup.specs.Compiled.{compiled_of, CompileIs, Compiles, Room}
 use Rattle.rules.proofs.Laws.Letting.{compiled-length}
 use Rattle.lookup.proofs.Laws.Parts.{past-some}
 
 -- ---- operations written one after another
 
-pub written-append : (t : List ℕ) (k : ℕ) (xs ys : List Op)
+pub written_append : (t : List ℕ) (k : ℕ) (xs ys : List Op)
     → written t k (xs ++ ys) ≡ written (written t k xs) (k + length xs) ys
 unfolding written
-written-append t k [] ys = ap (λ (i : ℕ). written t i ys) (omega arith)
-written-append t k (x ∷ xs) ys =
+written_append t k [] ys = ap (λ (i : ℕ). written t i ys) (omega arith)
+written_append t k (x ∷ xs) ys =
     let e : k + 1 + length xs ≡ k + suc (length xs) = omega arith in
-    written-append (putOp t k x) (k + 1) xs ys ∙ ap (λ (i : ℕ). written (written (putOp t k x) (k + 1) xs) i ys) e
+    written_append (put_op t k x) (k + 1) xs ys ∙ ap (λ (i : ℕ). written (written (put_op t k x) (k + 1) xs) i ys) e
 
 -- ---- the first part of an operation
 
@@ -50,7 +50,7 @@ module _ (ms maps : List Name) (base at k : ℕ) (f entry mid : List ℕ) (x : C
     pub count : ℕ
     pub ops : List Op
     pub whole : parsed (drop at f) ≡ some (e, w)
-    pub room : k + operations e ≤ mostStatements
+    pub room : k + operations e ≤ most_statements
     pub from : at ≤ x.end
     pub within : x.end ≤ length f
     pub behind : drop x.end f ≡ u
@@ -60,7 +60,7 @@ module _ (ms maps : List Name) (base at k : ℕ) (f entry mid : List ℕ) (x : C
     pub comma : past comma u ≡ some t
     pub nested : parsed t ≡ some (b, v)
     pub close : past closing v ≡ some w
-    pub unknowns : unknownFormula ms maps e ≡ (x.unknown || unknownFormula ms maps b)
+    pub unknowns : unknown_formula ms maps e ≡ (x.unknown || unknown_formula ms maps b)
     pub counted : operations e ≡ count + operations b + 1
     pub value : value_of ms (base + k) e ≡ Place (base + k + (count + operations b))
     pub made : compiled ms maps (base + k) e
@@ -91,7 +91,7 @@ module _ (ms maps : List Name) (base at k : ℕ) (f entry mid : List ℕ) (x : C
           subst (Compiles ms maps base (x.end + 1) x.done f mid exit y) q h
 
       -- there is room for the operation
-      pub last-room : y.done < mostStatements
+      pub last-room : y.done < most_statements
       last-room = omega (arith, second.done, B.done, B.counted, B.room)
 
       -- its ) stands in the field
@@ -103,8 +103,8 @@ module _ (ms maps : List Name) (base at k : ℕ) (f entry mid : List ℕ) (x : C
 
       -- the operation is looked up
       pub pair-compiled : (out : List ℕ) (r : Compiled)
-          → out ≡ putOp exit y.done (operated o x.operand y.operand)
-          → r ≡ compiledOf (y.end + 1) (x.unknown || y.unknown) (Place (base + y.done)) (y.done + 1)
+          → out ≡ put_op exit y.done (operated o x.operand y.operand)
+          → r ≡ compiled_of (y.end + 1) (x.unknown || y.unknown) (Place (base + y.done)) (y.done + 1)
           → Compiles ms maps base at k f entry out r (parsed (drop at f))
       unfolding written
       pair-compiled out r c q =
@@ -114,7 +114,7 @@ module _ (ms maps : List Name) (base at k : ℕ) (f entry mid : List ℕ) (x : C
           let e1 : x.done ≡ k + length B.ops = omega (arith, B.done, B.sized) in
           let ex : exit ≡ written entry k (B.ops ++ cb) =
           second.codes ∙ ap (λ (i : ℕ). written mid x.done (compiled ms maps i B.b)) d
-          ∙ (λ i. written (B.codes i) (e1 i) cb) ∙ sym (written-append entry k B.ops cb) in
+          ∙ (λ i. written (B.codes i) (e1 i) cb) ∙ sym (written_append entry k B.ops cb) in
           let to : y.done ≡ k + length (B.ops ++ cb) = omega (
             arith,
             second.done,
@@ -131,7 +131,7 @@ module _ (ms maps : List Name) (base at k : ℕ) (f entry mid : List ℕ) (x : C
           omega (arith, second.done, B.done) in
           subst (λ (z : Compiled). Compiles ms maps base at k f entry out z (parsed (drop at f))) (sym q)
           (subst (Compiles ms maps base at k f entry out
-          (compiledOf (y.end + 1) (x.unknown || y.unknown) (Place (base + y.done)) (y.done + 1))) (sym B.whole)
+          (compiled_of (y.end + 1) (x.unknown || y.unknown) (Place (base + y.done)) (y.done + 1))) (sym B.whole)
           (record {
             from = omega (arith, second.from, B.from);
             within = last-inside;
@@ -139,14 +139,14 @@ module _ (ms maps : List Name) (base at k : ℕ) (f entry mid : List ℕ) (x : C
             unknown = ap (λ (z : Bool). x.unknown || z) second.unknown ∙ sym B.unknowns;
             operand = ap Place place ∙ sym B.value;
             done = omega (arith, second.done, B.done, B.counted);
-            codes = c ∙ (λ i. putOp (ex i) (to i) (operated o x.operand (val i)))
-                ∙ sym (written-append entry k (B.ops ++ cb) (op ∷ [])) ∙ ap (written entry k) (sym B.made);
+            codes = c ∙ (λ i. put_op (ex i) (to i) (operated o x.operand (val i)))
+                ∙ sym (written_append entry k (B.ops ++ cb) (op ∷ [])) ∙ ap (written entry k) (sym B.made);
           }))
 
 -- the same first part under other names
-pub begun-as : {ms maps : List Name} {base at k : ℕ} {f entry mid out : List ℕ} {x y : Compiled} {o p : Operation}
+pub begun_as : {ms maps : List Name} {base at k : ℕ} {f entry mid out : List ℕ} {x y : Compiled} {o p : Operation}
     → out ≡ mid → p ≡ o → y ≡ x → Begun ms maps base at k f entry mid x o → Begun ms maps base at k f entry out y p
-begun-as {ms} {maps} {base} {at} {k} {f} {entry} {mid} {out} {x} {y} {o} {p} a b c B =
+begun_as {ms} {maps} {base} {at} {k} {f} {entry} {mid} {out} {x} {y} {o} {p} a b c B =
     subst (λ (z : List ℕ). Begun ms maps base at k f entry z y p) (sym a)
     (subst (λ (z : Operation). Begun ms maps base at k f entry mid y z) (sym b)
     (subst (λ (z : Compiled). Begun ms maps base at k f entry mid z o) (sym c) B))

@@ -7,40 +7,40 @@ use mathlib.Core.Option.{Option, none, some, some-injective}
 use native.Mathlib.Omega.{arith}
 use lib.Dec.{eqb}
 use lib.ListN.{length, drop}
-use Rattle.tokens.specs.Ascii.{isMark, comma}
+use Rattle.tokens.specs.Ascii.{is_mark, comma}
 use Rattle.tokens.specs.Split.{until}
-use Rattle.tokens.specs.Token.{◌>>=◌, provided, Name, Term, readName, readPlain, readTerm}
+use Rattle.tokens.specs.Token.{◌>>=◌, provided, Name, Term, read_name, read_plain, read_term}
 use Rattle.tokens.specs.Limits.{no_part}
 use Rattle.grammar.specs.declared.formula.Operation.{Operation}
 use Rattle.grammar.specs.declared.formula.Operation.TheVariants as Operation
 use Rattle.grammar.specs.declared.record.Binary.{Binary}
 use Rattle.grammar.specs.declared.record.Binary.TheVariants as Binary
-use Rattle.grammar.specs.Formula.{Formula, Parsed, operand, app, twofold, operations, front, rest, operationAt}
-use Rattle.grammar.specs.Formula.{mapAt, operand_at, pair_at, levelFor, level, parsed}
+use Rattle.grammar.specs.Formula.{Formula, Parsed, operand, app, twofold, operations, front, rest, operation_at}
+use Rattle.grammar.specs.Formula.{map_at, operand_at, pair_at, level_for, level, parsed}
 use Rattle.rules.specs.declared.types.Operand.{Operand}
 use Rattle.rules.specs.declared.types.Operand.TheVariants.{Place}
 use Rattle.rules.specs.declared.types.Op.TheVariants as Op
 use Rattle.lookup.specs.declared.compile.Compiled.{Compiled}
-use Rattle.rules.specs.Limits.{mostStatements}
-use Rattle.rules.specs.Scope.{place_of, missing, unknownTerm, operandIn, unknownFormula, value_of, compiled}
-use Rattle.lookup.specs.Found.{joined, operated, termFound, asTerm}
-use Rattle.lookup.specs.Compiled.{compiledOf, MapLooked, TermLooked}
+use Rattle.rules.specs.Limits.{most_statements}
+use Rattle.rules.specs.Scope.{place_of, missing, unknown_term, operand_in, unknown_formula, value_of, compiled}
+use Rattle.lookup.specs.Found.{joined, operated, term_found, as_term}
+use Rattle.lookup.specs.Compiled.{compiled_of, MapLooked, TermLooked}
 use Rattle.lookup.specs.Coded.{written}
 use Rattle.lookup.specs.Compiled.{CompileIs, Compiles, Room}
 use Rattle.grammar.proofs.Laws.Formula.{parsed-level}
-use Rattle.grammar.proofs.Laws.Measured.{mark-behind, mark-front, mark-rest, mark-within}
+use Rattle.grammar.proofs.Laws.Measured.{mark_behind, mark_front, mark_rest, mark_within}
 use Rattle.rules.proofs.Laws.Letting.{compiled-length}
-use Rattle.lookup.proofs.Laws.Parts.{PairIs, pair-view, room-some}
+use Rattle.lookup.proofs.Laws.Parts.{PairIs, pair_view, room-some}
 use Rattle.lookup.proofs.Laws.Begun.{Begun}
 
-level-is : (s : List ℕ) {o : Operation} → operationAt s ≡ o → parsed s ≡ levelFor parsed o s
+level-is : (s : List ℕ) {o : Operation} → operation_at s ≡ o → parsed s ≡ level_for parsed o s
 unfolding level
-level-is s e = parsed-level s ∙ ap (λ (o : Operation). levelFor parsed o s) e
+level-is s e = parsed-level s ∙ ap (λ (o : Operation). level_for parsed o s) e
 
 module _ (ms maps : List Name) (n : ℕ) where
   two-unknown : (g : Binary) (a b : Formula)
-      → unknownFormula ms maps (twofold g a b) ≡ (unknownFormula ms maps a || unknownFormula ms maps b)
-  unfolding unknownFormula
+      → unknown_formula ms maps (twofold g a b) ≡ (unknown_formula ms maps a || unknown_formula ms maps b)
+  unfolding unknown_formula
   two-unknown Binary.Xor a b = refl
   two-unknown Binary.Mul a b = refl
 
@@ -61,10 +61,10 @@ unfolding operations
 two-operations Binary.Xor a b = refl
 two-operations Binary.Mul a b = refl
 
-map-view : (s : List ℕ) (g : Name) (u : List ℕ) (o : Option Name)
+map_view : (s : List ℕ) (g : Name) (u : List ℕ) (o : Option Name)
     → ◌≡◌ {A = Option (Name × List ℕ)} (o >>= λ f. some (f, rest s)) (some (g, u)) → (o ≡ some g) × (rest s ≡ u)
-map-view s g u none e = let z : ◌≡◌ {A = ℕ} 0 1 = cc in absurd (omega arith)
-map-view s g u (some f) e =
+map_view s g u none e = let z : ◌≡◌ {A = ℕ} 0 1 = cc in absurd (omega arith)
+map_view s g u (some f) e =
     let p = some-injective _ _ e in
     (ap (λ (z : Name × List ℕ). some z.0) p, ap (λ (z : Name × List ℕ). z.1) p)
 
@@ -78,35 +78,35 @@ plain-named s g (some n) e = go (eqb n.part no_part) e
     go false p = let z : ◌≡◌ {A = ℕ} 0 1 = cc in absurd (omega arith)
 
 module _ (ms maps : List Name) (base at k mark : ℕ) (f entry mid : List ℕ) (x : Compiled) (h : at ≤ length f)
-    (e : mark ≡ at + until isMark (drop at f)) (room : Room k (parsed (drop at f))) where
+    (e : mark ≡ at + until is_mark (drop at f)) (room : Room k (parsed (drop at f))) where
   -- an operation on two formulas
-  two-view : (g : Binary) → operationAt (drop at f) ≡ Operation.Two g
-      → (p : Parsed) × (parsed (drop at f) ≡ some p) × (k + operations p.0 ≤ mostStatements)
+  two_view : (g : Binary) → operation_at (drop at f) ≡ Operation.Two g
+      → (p : Parsed) × (parsed (drop at f) ≡ some p) × (k + operations p.0 ≤ most_statements)
       × PairIs (twofold g) (parsed (drop (mark + 1) f)) p
-  unfolding levelFor
-  two-view g q =
+  unfolding level_for
+  two_view g q =
       let r = room-some k (parsed (drop at f)) room in (
         r.0,
         r.1,
         r.2,
-        pair-view (twofold g) (parsed (drop (mark + 1) f)) r.0
-            (ap (λ (z : List ℕ). pair_at parsed (twofold g) (parsed z)) (mark-behind f at mark h e)
+        pair_view (twofold g) (parsed (drop (mark + 1) f)) r.0
+            (ap (λ (z : List ℕ). pair_at parsed (twofold g) (parsed z)) (mark_behind f at mark h e)
             ∙ sym (level-is (drop at f) q) ∙ r.1),
       )
 
   -- there is room for its first formula
-  pub two-room : (g : Binary) → operationAt (drop at f) ≡ Operation.Two g → Room k (parsed (drop (mark + 1) f))
+  pub two-room : (g : Binary) → operation_at (drop at f) ≡ Operation.Two g → Room k (parsed (drop (mark + 1) f))
   two-room g q =
-      let r = two-view g q in
+      let r = two_view g q in
       let P = r.3 in
       subst (Room k) (sym P.read)
       (omega (arith, r.2, ap (λ (z : Parsed). operations z.0) P.whole, two-operations g P.first P.second))
 
-  pub two-begun : (g : Binary) → operationAt (drop at f) ≡ Operation.Two g
+  pub two-begun : (g : Binary) → operation_at (drop at f) ≡ Operation.Two g
       → Compiles ms maps base (mark + 1) k f entry mid x (parsed (drop (mark + 1) f))
       → Begun ms maps base at k f entry mid x (Operation.Two g)
   two-begun g q c =
-      let r = two-view g q in
+      let r = two_view g q in
       let P = r.3 in
       let a : Formula = P.first in
       let X : CompileIs ms maps base (mark + 1) k f entry mid x a P.u =
@@ -132,7 +132,7 @@ module _ (ms maps : List Name) (base at k mark : ℕ) (f entry mid : List ℕ) (
         nested = P.nested;
         close = P.close;
         unknowns = two-unknown ms maps (base + k) g a P.second
-            ∙ ap (λ (z : Bool). z || unknownFormula ms maps P.second) (sym X.unknown);
+            ∙ ap (λ (z : Bool). z || unknown_formula ms maps P.second) (sym X.unknown);
         counted = two-operations g a P.second;
         value = two-value ms maps (base + k) g a P.second;
         made = two-compiled ms maps (base + k) g a P.second
@@ -142,34 +142,34 @@ module _ (ms maps : List Name) (base at k mark : ℕ) (f entry mid : List ℕ) (
       }
 
   -- an image
-  image-view : operationAt (drop at f) ≡ Operation.Image
-      → (p : Parsed) × (parsed (drop at f) ≡ some p) × (k + operations p.0 ≤ mostStatements)
-      × PairIs app (mapAt (drop (mark + 1) f)) p
-  unfolding levelFor
-  image-view q =
+  image_view : operation_at (drop at f) ≡ Operation.Image
+      → (p : Parsed) × (parsed (drop at f) ≡ some p) × (k + operations p.0 ≤ most_statements)
+      × PairIs app (map_at (drop (mark + 1) f)) p
+  unfolding level_for
+  image_view q =
       let r = room-some k (parsed (drop at f)) room in (
         r.0,
         r.1,
         r.2,
-        pair-view app (mapAt (drop (mark + 1) f)) r.0
-            (ap (λ (z : List ℕ). pair_at parsed app (mapAt z)) (mark-behind f at mark h e)
+        pair_view app (map_at (drop (mark + 1) f)) r.0
+            (ap (λ (z : List ℕ). pair_at parsed app (map_at z)) (mark_behind f at mark h e)
             ∙ sym (level-is (drop at f) q) ∙ r.1),
       )
 
-  pub image-begun : operationAt (drop at f) ≡ Operation.Image → mark < length f
+  pub image-begun : operation_at (drop at f) ≡ Operation.Image → mark < length f
       → MapLooked maps f (mark + 1) k x → mid ≡ entry
       → Begun ms maps base at k f entry mid x Operation.Image
-  unfolding mapAt readPlain termFound unknownTerm operandIn operations unknownFormula value_of compiled written
+  unfolding map_at read_plain term_found unknown_term operand_in operations unknown_formula value_of compiled written
   image-begun q l c m =
-      let r = image-view q in
+      let r = image_view q in
       let P = r.3 in
       let g : Name = P.first in
       let s : List ℕ = drop (mark + 1) f in
-      let M = map-view s g P.u (readPlain (front s)) P.read in
-      let N : readName (front s) ≡ some g = plain-named (front s) g (readName (front s)) M.0 in
-      let end : ℕ = mark + 1 + until isMark s in
-      let X : x ≡ compiledOf end (missing maps g) (Place (place_of g maps)) k =
-      c ∙ ap (λ (o : Option Name). let z = termFound maps (asTerm o) in compiledOf end z.unknown z.operand k) N in
+      let M = map_view s g P.u (read_plain (front s)) P.read in
+      let N : read_name (front s) ≡ some g = plain-named (front s) g (read_name (front s)) M.0 in
+      let end : ℕ = mark + 1 + until is_mark s in
+      let X : x ≡ compiled_of end (missing maps g) (Place (place_of g maps)) k =
+      c ∙ ap (λ (o : Option Name). let z = term_found maps (as_term o) in compiled_of end z.unknown z.operand k) N in
       let xe : x.end ≡ end = ap (λ (z : Compiled). z.end) X in
       let n : base + k + 0 ≡ base + k = omega arith in
       record {
@@ -184,15 +184,15 @@ module _ (ms maps : List Name) (base at k mark : ℕ) (f entry mid : List ℕ) (
         whole = r.1 ∙ ap some P.whole;
         room = omega (arith, r.2, ap (λ (z : Parsed). operations z.0) P.whole);
         from = omega (arith, xe);
-        within = omega (arith, xe, mark-within f (mark + 1) end (omega arith) refl);
-        behind = ap (λ (i : ℕ). drop i f) xe ∙ mark-rest f (mark + 1) end (omega arith) refl ∙ M.1;
+        within = omega (arith, xe, mark_within f (mark + 1) end (omega arith) refl);
+        behind = ap (λ (i : ℕ). drop i f) xe ∙ mark_rest f (mark + 1) end (omega arith) refl ∙ M.1;
         done = ap (λ (z : Compiled). z.done) X ∙ omega arith;
         sized = refl;
         codes = m;
         comma = P.comma;
         nested = P.nested;
         close = P.close;
-        unknowns = ap (λ (z : Compiled). z.unknown || unknownFormula ms maps P.second) (sym X);
+        unknowns = ap (λ (z : Compiled). z.unknown || unknown_formula ms maps P.second) (sym X);
         counted = omega arith;
         value = ap Place (omega arith);
         made = (λ i. compiled ms maps (sym n i) P.second
@@ -200,23 +200,23 @@ module _ (ms maps : List Name) (base at k mark : ℕ) (f entry mid : List ℕ) (
       }
 
   -- an operand
-  pub operand-compiled : operationAt (drop at f) ≡ Operation.Operand → TermLooked ms f at mark k x → mid ≡ entry
+  pub operand-compiled : operation_at (drop at f) ≡ Operation.Operand → TermLooked ms f at mark k x → mid ≡ entry
       → Compiles ms maps base at k f entry mid x (parsed (drop at f))
-  unfolding levelFor operand_at termFound unknownFormula value_of operations compiled written
+  unfolding level_for operand_at term_found unknown_formula value_of operations compiled written
   operand-compiled q c m =
       subst (Compiles ms maps base at k f entry mid x) (sym (level-is (drop at f) q))
-      (go (readTerm (front (drop at f))) (c ∙ ap (λ (z : List ℕ). compiledOf mark (termFound ms (readTerm z)).unknown
-      (termFound ms (readTerm z)).operand k) (mark-front f at mark h e)))
+      (go (read_term (front (drop at f))) (c ∙ ap (λ (z : List ℕ). compiled_of mark (term_found ms (read_term z)).unknown
+      (term_found ms (read_term z)).operand k) (mark_front f at mark h e)))
     where
-      go : (o : Option Term) → x ≡ compiledOf mark (termFound ms o).unknown (termFound ms o).operand k
+      go : (o : Option Term) → x ≡ compiled_of mark (term_found ms o).unknown (term_found ms o).operand k
           → Compiles ms maps base at k f entry mid x (o >>= λ a. some (operand a, rest (drop at f)))
       go none X = tt
       go (some a) X =
           let end : x.end ≡ mark = ap (λ (z : Compiled). z.end) X in
           record {
             from = omega (arith, end);
-            within = omega (arith, end, mark-within f at mark h e);
-            behind = ap (λ (i : ℕ). drop i f) end ∙ mark-rest f at mark h e;
+            within = omega (arith, end, mark_within f at mark h e);
+            behind = ap (λ (i : ℕ). drop i f) end ∙ mark_rest f at mark h e;
             unknown = ap (λ (z : Compiled). z.unknown) X;
             operand = ap (λ (z : Compiled). z.operand) X;
             done = ap (λ (z : Compiled). z.done) X ∙ omega arith;
@@ -224,6 +224,6 @@ module _ (ms maps : List Name) (base at k mark : ℕ) (f entry mid : List ℕ) (
           }
 
   -- a word that is no operation is no formula
-  pub unknown-none : operationAt (drop at f) ≡ Operation.Unknown → ⊥
-  unfolding levelFor
+  pub unknown-none : operation_at (drop at f) ≡ Operation.Unknown → ⊥
+  unfolding level_for
   unknown-none q = subst (Room k) (level-is (drop at f) q) room

@@ -11,9 +11,9 @@ use lib.Seq.{get_or-set_same, get_or-set_other, length-take-le, get_or-take}
 use Rattle.grammar.specs.declared.line.NameRef.{NameRef}
 use Rattle.tokens.specs.Token.{Name}
 use Rattle.grammar.specs.declared.lists.Outputs.{Outputs}
-use Rattle.grammar.specs.Recorded.{namesRead, Listed}
-use Rattle.grammar.specs.Line.{nameIn}
-use Rattle.rules.specs.Limits.{mostEntries, mostNumbers}
+use Rattle.grammar.specs.Recorded.{names_read, Listed}
+use Rattle.grammar.specs.Line.{name_in}
+use Rattle.rules.specs.Limits.{most_entries, most_numbers}
 use Rattle.lookup.specs.Names.{entry, listed, put}
 
 -- what stands past the end of a table
@@ -27,16 +27,16 @@ module _ (s : List ℕ) (o : Outputs) (L : Listed o) where
   held = omega (arith, L.few, L.size)
 
   -- as many names as are counted
-  pub read_length : length (namesRead s o) ≡ o.count
-  unfolding namesRead
-  read_length = length-map (take o.count o.items) (nameIn s) ∙ length-take-le o.count o.items held
+  pub read_length : length (names_read s o) ≡ o.count
+  unfolding names_read
+  read_length = length-map (take o.count o.items) (name_in s) ∙ length-take-le o.count o.items held
 
   -- the name at i
-  pub read_at : (i : ℕ) → i < o.count → get_or (namesRead s o) i (nameIn s nowhere) ≡ nameIn s
+  pub read_at : (i : ℕ) → i < o.count → get_or (names_read s o) i (name_in s nowhere) ≡ name_in s
       (get_or o.items i nowhere)
-  unfolding namesRead
-  read_at i k = get_or-map (nameIn s) (take o.count o.items) i nowhere
-      ∙ ap (nameIn s) (get_or-take o.count o.items i nowhere k)
+  unfolding names_read
+  read_at i k = get_or-map (name_in s) (take o.count o.items) i nowhere
+      ∙ ap (name_in s) (get_or-take o.count o.items i nowhere k)
 
 -- ---- the names of a table
 
@@ -48,28 +48,28 @@ module _ (s t : List ℕ) where
   listed-length from (suc n) = ap suc (listed-length (from + 1) n)
 
   -- the name at i
-  pub listed_at : (from n i : ℕ) (d : Name) → i < n → get_or (listed s t from n) i d ≡ nameIn s (entry t (from + i))
+  pub listed_at : (from n i : ℕ) (d : Name) → i < n → get_or (listed s t from n) i d ≡ name_in s (entry t (from + i))
   unfolding listed
   listed_at from zero i d h = absurd (omega arith)
   listed_at from (suc n) zero d h =
       let e : from ≡ from + 0 = omega arith in
-      ap (λ (j : ℕ). nameIn s (entry t j)) e
+      ap (λ (j : ℕ). name_in s (entry t j)) e
   listed_at from (suc n) (suc i) d h =
       let e : from + 1 + i ≡ from + suc i = omega arith in
-      listed_at (from + 1) n i d (omega arith) ∙ ap (λ (j : ℕ). nameIn s (entry t j)) e
+      listed_at (from + 1) n i d (omega arith) ∙ ap (λ (j : ℕ). name_in s (entry t j)) e
 
-  listed-last : (from n : ℕ) → listed s t from (suc n) ≡ listed s t from n ++ nameIn s (entry t (from + n)) ∷ []
+  listed-last : (from n : ℕ) → listed s t from (suc n) ≡ listed s t from n ++ name_in s (entry t (from + n)) ∷ []
   unfolding listed
   listed-last from zero =
       let e : from ≡ from + 0 = omega arith in
-      ap (λ (j : ℕ). nameIn s (entry t j) ∷ []) e
+      ap (λ (j : ℕ). name_in s (entry t j) ∷ []) e
   listed-last from (suc n) =
       let e : from + 1 + n ≡ from + suc n = omega arith in
-      ap (λ (ns : List Name). nameIn s (entry t from) ∷ ns)
-      (listed-last (from + 1) n ∙ ap (λ (j : ℕ). listed s t (from + 1) n ++ nameIn s (entry t j) ∷ []) e)
+      ap (λ (ns : List Name). name_in s (entry t from) ∷ ns)
+      (listed-last (from + 1) n ∙ ap (λ (j : ℕ). listed s t (from + 1) n ++ name_in s (entry t j) ∷ []) e)
 
   -- one name more
-  pub listed_more : (from n : ℕ) → listed s t from (n + 1) ≡ listed s t from n ++ nameIn s (entry t (from + n)) ∷ []
+  pub listed_more : (from n : ℕ) → listed s t from (n + 1) ≡ listed s t from n ++ name_in s (entry t (from + n)) ∷ []
   listed_more from n = rw add-one (listed-last from n)
 
 module _ (t : List ℕ) (at : ℕ) (x : NameRef) where
@@ -81,10 +81,10 @@ module _ (t : List ℕ) (at : ℕ) (x : NameRef) where
       ∙ length-set (lib.ListN.set t (3 * at) x.at) (3 * at + 1) x.len
       ∙ length-set t (3 * at) x.at
 
-  number-apart : (j : ℕ) → (j ≡ 3 * at → ⊥) → (j ≡ 3 * at + 1 → ⊥) → (j ≡ 3 * at + 2 → ⊥)
+  number_apart : (j : ℕ) → (j ≡ 3 * at → ⊥) → (j ≡ 3 * at + 1 → ⊥) → (j ≡ 3 * at + 2 → ⊥)
       → get_or (put t at x) j 0 ≡ get_or t j 0
   unfolding put
-  number-apart j a b c =
+  number_apart j a b c =
       get_or-set_other (lib.ListN.set (lib.ListN.set t (3 * at) x.at) (3 * at + 1) x.len) (3 * at + 2) j
       x.part 0 c
       ∙ get_or-set_other (lib.ListN.set t (3 * at) x.at) (3 * at + 1) j x.len 0 b
@@ -94,9 +94,9 @@ module _ (t : List ℕ) (at : ℕ) (x : NameRef) where
   pub entry-apart : (i : ℕ) → (i ≡ at → ⊥) → entry (put t at x) i ≡ entry t i
   unfolding entry
   entry-apart i h =
-      let a = number-apart (3 * i) (λ e. h (omega arith)) (λ e. omega arith) (λ e. omega arith) in
-      let b = number-apart (3 * i + 1) (λ e. omega arith) (λ e. h (omega arith)) (λ e. omega arith) in
-      let c = number-apart (3 * i + 2) (λ e. omega arith) (λ e. omega arith) (λ e. h (omega arith)) in
+      let a = number_apart (3 * i) (λ e. h (omega arith)) (λ e. omega arith) (λ e. omega arith) in
+      let b = number_apart (3 * i + 1) (λ e. omega arith) (λ e. h (omega arith)) (λ e. omega arith) in
+      let c = number_apart (3 * i + 2) (λ e. omega arith) (λ e. omega arith) (λ e. h (omega arith)) in
       λ j. record { at = a j; len = b j; part = c j }
 
   -- other names stay as they are
@@ -107,17 +107,17 @@ module _ (t : List ℕ) (at : ℕ) (x : NameRef) where
   listed-apart s from (suc n) h =
       let head = entry-apart from (h from (omega arith) (omega arith)) in
       let tail = listed-apart s (from + 1) n (λ i a b. h i (omega arith) (omega arith)) in
-      λ j. nameIn s (head j) ∷ tail j
+      λ j. name_in s (head j) ∷ tail j
 
-  module _ (h : at < mostEntries) (l : length t ≡ mostNumbers) where
+  module _ (h : at < most_entries) (l : length t ≡ most_numbers) where
     -- the entry is the name
     pub entry-put : entry (put t at x) at ≡ x
     unfolding entry put
     entry-put =
         let t1 = lib.ListN.set t (3 * at) x.at in
         let t2 = lib.ListN.set t1 (3 * at + 1) x.len in
-        let l1 : length t1 ≡ mostNumbers = length-set t (3 * at) x.at ∙ l in
-        let l2 : length t2 ≡ mostNumbers = length-set t1 (3 * at + 1) x.len ∙ l1 in
+        let l1 : length t1 ≡ most_numbers = length-set t (3 * at) x.at ∙ l in
+        let l2 : length t2 ≡ most_numbers = length-set t1 (3 * at + 1) x.len ∙ l1 in
         let a : get_or (lib.ListN.set t2 (3 * at + 2) x.part) (3 * at) 0 ≡ x.at =
         get_or-set_other t2 (3 * at + 2) (3 * at) x.part 0 (λ e. omega arith)
         ∙ get_or-set_other t1 (3 * at + 1) (3 * at) x.len 0 (λ e. omega arith)
@@ -130,10 +130,10 @@ module _ (t : List ℕ) (at : ℕ) (x : NameRef) where
         λ j. record { at = a j; len = b j; part = c j }
 
 -- a name stored behind the others is one name more
-pub listed_next : (s t : List ℕ) (x : NameRef) (from n : ℕ) → from + n < mostEntries → length t ≡ mostNumbers
-    → listed s (put t (from + n) x) from (n + 1) ≡ listed s t from n ++ nameIn s x ∷ []
+pub listed_next : (s t : List ℕ) (x : NameRef) (from n : ℕ) → from + n < most_entries → length t ≡ most_numbers
+    → listed s (put t (from + n) x) from (n + 1) ≡ listed s t from n ++ name_in s x ∷ []
 listed_next s t x from n h l =
     let new = put t (from + n) x in
     let old = listed-apart t (from + n) x s from n (λ i a b e. omega arith) in
     let last = entry-put t (from + n) x h l in
-    listed_more s new from n ∙ (λ j. old j ++ nameIn s (last j) ∷ [])
+    listed_more s new from n ∙ (λ j. old j ++ name_in s (last j) ∷ [])

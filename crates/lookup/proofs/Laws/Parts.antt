@@ -14,7 +14,7 @@ use Rattle.grammar.specs.declared.record.Binary.TheVariants as Binary
 use Rattle.grammar.specs.Formula.{Formula, Parsed, operations}
 use Rattle.grammar.specs.Formula.{past, closed, pair_at, parsed}
 use Rattle.rules.specs.declared.types.Op.TheVariants as Op
-use Rattle.rules.specs.Limits.{mostStatements}
+use Rattle.rules.specs.Limits.{most_statements}
 use Rattle.lookup.specs.Compiled.{Room}
 
 -- a byte m stands in front of t
@@ -41,17 +41,17 @@ pub record PairIs {A : Type 0} (g : A → Formula → Formula) (o : Option (A ×
   pub close : past closing v ≡ some w
   pub whole : p ≡ (g first second, w)
 
-abbrev closedBy : {A : Type 0} → A → Option (List ℕ) → Option (A × List ℕ)
-closedBy a z = z >>= λ w. some (a, w)
+abbrev closed_by : {A : Type 0} → A → Option (List ℕ) → Option (A × List ℕ)
+closed_by a z = z >>= λ w. some (a, w)
 
-abbrev pairedBy : {A : Type 0} → (A → Formula → Formula) → A → Option Parsed → Option Parsed
-pairedBy g a y = y >>= λ c. some (g a c.0, c.1)
+abbrev paired_by : {A : Type 0} → (A → Formula → Formula) → A → Option Parsed → Option Parsed
+paired_by g a y = y >>= λ c. some (g a c.0, c.1)
 
 module _ {A : Type 0} (g : A → Formula → Formula) (p : Parsed) (a : A × List ℕ) where
-  view-close : (t : List ℕ) → past comma a.1 ≡ some t → (b : Parsed) → parsed t ≡ some b → (z : Option (List ℕ))
-      → past closing b.1 ≡ z → pairedBy g a.0 (closedBy b.0 z) ≡ some p → PairIs g (some a) p
-  view-close t q b r none l e = let z : ◌≡◌ {A = ℕ} 0 1 = cc in absurd (omega arith)
-  view-close t q b r (some w) l e =
+  view_close : (t : List ℕ) → past comma a.1 ≡ some t → (b : Parsed) → parsed t ≡ some b → (z : Option (List ℕ))
+      → past closing b.1 ≡ z → paired_by g a.0 (closed_by b.0 z) ≡ some p → PairIs g (some a) p
+  view_close t q b r none l e = let z : ◌≡◌ {A = ℕ} 0 1 = cc in absurd (omega arith)
+  view_close t q b r (some w) l e =
       record {
         first = a.0;
         u = a.1;
@@ -66,27 +66,27 @@ module _ {A : Type 0} (g : A → Formula → Formula) (p : Parsed) (a : A × Lis
         whole = sym (some-injective _ _ e);
       }
 
-  view-nested : (t : List ℕ) → past comma a.1 ≡ some t → (y : Option Parsed) → parsed t ≡ y
-      → pairedBy g a.0 (closed closing y) ≡ some p → PairIs g (some a) p
+  view_nested : (t : List ℕ) → past comma a.1 ≡ some t → (y : Option Parsed) → parsed t ≡ y
+      → paired_by g a.0 (closed closing y) ≡ some p → PairIs g (some a) p
   unfolding closed
-  view-nested t q none r e = let z : ◌≡◌ {A = ℕ} 0 1 = cc in absurd (omega arith)
-  view-nested t q (some b) r e = view-close t q b r (past closing b.1) refl e
+  view_nested t q none r e = let z : ◌≡◌ {A = ℕ} 0 1 = cc in absurd (omega arith)
+  view_nested t q (some b) r e = view_close t q b r (past closing b.1) refl e
 
-  view-comma : (x : Option (List ℕ)) → past comma a.1 ≡ x
-      → (closedBy a.0 x >>= λ c. pairedBy g c.0 (closed closing (parsed c.1))) ≡ some p
+  view_comma : (x : Option (List ℕ)) → past comma a.1 ≡ x
+      → (closed_by a.0 x >>= λ c. paired_by g c.0 (closed closing (parsed c.1))) ≡ some p
       → PairIs g (some a) p
-  view-comma none q e = let z : ◌≡◌ {A = ℕ} 0 1 = cc in absurd (omega arith)
-  view-comma (some t) q e = view-nested t q (parsed t) refl e
+  view_comma none q e = let z : ◌≡◌ {A = ℕ} 0 1 = cc in absurd (omega arith)
+  view_comma (some t) q e = view_nested t q (parsed t) refl e
 
 -- what was read as a pair is made of its parts
-pub pair-view : {A : Type 0} (g : A → Formula → Formula) (o : Option (A × List ℕ)) (p : Parsed)
+pub pair_view : {A : Type 0} (g : A → Formula → Formula) (o : Option (A × List ℕ)) (p : Parsed)
     → pair_at parsed g o ≡ some p → PairIs g o p
 unfolding pair_at closed
-pair-view g none p e = let z : ◌≡◌ {A = ℕ} 0 1 = cc in absurd (omega arith)
-pair-view g (some a) p e = view-comma g p a (past comma a.1) refl e
+pair_view g none p e = let z : ◌≡◌ {A = ℕ} 0 1 = cc in absurd (omega arith)
+pair_view g (some a) p e = view_comma g p a (past comma a.1) refl e
 
 -- there is a formula where there is room for one
 pub room-some : (k : ℕ) (o : Option Parsed) → Room k o
-    → (p : Parsed) × (o ≡ some p) × (k + operations p.0 ≤ mostStatements)
+    → (p : Parsed) × (o ≡ some p) × (k + operations p.0 ≤ most_statements)
 room-some k none h = absurd h
 room-some k (some p) h = (p, refl, h)

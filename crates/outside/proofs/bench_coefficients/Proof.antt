@@ -1,12 +1,12 @@
 -- `outside::bench_coefficients` meets its contract. Assumes nothing.
-use Rattle.outside.proofs.Laws.{map-told, map-untold}
+use Rattle.outside.proofs.Laws.{map-told, map_untold}
 use native.Mathlib.Omega.{arith}
 use borrow.Author.Rules.{rules}
 use Rattle.outside.proofs.bench_coefficients.Statement.{statement}
 use Rattle.outside.proofs.bench_coefficients.Tie as tie
 
 returns : tie.Need-returns
-returns c = map-untold c.if1.true
+returns c = map_untold c.if1.true
 
 coefficients-requires : tie.Need-coefficients-requires
 coefficients-requires c κs = search rules

@@ -1,13 +1,13 @@
 -- `outside::bench_run` meets its contract: four stores tell the run. Assumes nothing.
 use lib.ListN.{length-set}
-use Rattle.outside.proofs.Laws.{run-stores, run-told, run-untold}
+use Rattle.outside.proofs.Laws.{run_stores, run_told, run_untold}
 use native.Mathlib.Omega.{arith}
 use borrow.Author.Rules.{rules}
 use Rattle.outside.proofs.bench_run.Statement.{statement}
 use Rattle.outside.proofs.bench_run.Tie as tie
 
 returns : tie.Need-returns
-returns c = run-untold c.if1.true
+returns c = run_untold c.if1.true
 
 run-requires : tie.Need-run-requires
 run-requires c κs = search rules
@@ -40,7 +40,7 @@ returns-2 : tie.Need-returns-2
 returns-2 c =
     let s = c.before.before.before.before.before.before.before.before in
     let run = c.before.before.before.run in
-    run-told (omega arith) run.ensures (run-stores run.result s.args.numbers.now (omega arith))
+    run_told (omega arith) run.ensures (run_stores run.result s.args.numbers.now (omega arith))
 
 pub bench-run-spec : {M : Type 1} → statement M
 bench-run-spec =

@@ -1,4 +1,4 @@
--- `firstDiffering` of a polynomial with a term: each byte exists and is at most its variable's highest power, the
+-- `first_differing` of a polynomial with a term: each byte exists and is at most its variable's highest power, the
 -- value there is not zero, and it is zero at every list before it. It turns on `some_left`: the powers bound the
 -- bytes that leave nothing.
 use mathlib.Core.Path.{◌≡◌, refl, sym, ap, ap₂, ◌∙◌, subst}
@@ -13,11 +13,11 @@ use lib.ListN.{length, replicate, take}
 use Rattle.field.specs.Laws.{Ops, Laws}
 use Rattle.poly.specs.Poly.{term, Poly, order}
 use Rattle.poly.specs.Value.{mono, eval}
-use Rattle.poly.specs.First.{put, unlessNone, seek, firstByte, firstDiffering, maxEach, highest}
+use Rattle.poly.specs.First.{put, unless_none, seek, first_byte, first_differing, max_each, highest}
 use Rattle.poly.specs.Canon.{Within, ByteList, Spare, Powers, Coefs, Above, Sorted, NonzeroByte, Canon, Some}
 use Rattle.poly.specs.Canon.{Before}
 use Rattle.field.proofs.Laws.Algebra.{mul-one}
-use Rattle.poly.proofs.Laws.Order.{eq≢lt, order-self}
+use Rattle.poly.proofs.Laws.Order.{eq≢lt, order_self}
 use Rattle.poly.proofs.Laws.Normal.{powers-map}
 use Rattle.poly.proofs.Laws.Value.{eval-put}
 use Rattle.poly.proofs.Laws.Reduced.{zeros-bytes, canon-put, put-within, put-spare}
@@ -43,9 +43,9 @@ range-each P a (suc n) h =
     (h a (le_refl a) (omega arith), range-each P (suc a) n (λ b l m. h b (omega arith) (omega arith)))
 
 -- no number stands in a range twice
-range-different : (a n : ℕ) → Different (range a n)
-range-different a zero = tt
-range-different a (suc n) = (range-each (λ s. a ≢ s) (suc a) n (λ b l m. omega arith), range-different (suc a) n)
+range_different : (a n : ℕ) → Different (range a n)
+range_different a zero = tt
+range_different a (suc n) = (range-each (λ s. a ≢ s) (suc a) n (λ b l m. omega arith), range_different (suc a) n)
 
 -- ---- the search
 
@@ -60,7 +60,7 @@ module _ (f : ℕ → Poly) where
       step ih e (inr m) = ih m
 
       go : (suc a ≤ b → b < seek k (suc a) f → f b ≡ []) → (q : Poly) → f a ≡ q
-          → b < unlessNone q a (seek k (suc a) f) → f b ≡ []
+          → b < unless_none q a (seek k (suc a) f) → f b ≡ []
       go ih [] e m = step (λ n. ih n m) e (eq-or-lt_of_le h)
       go ih (t ∷ q) e m = absurd (omega arith)
 
@@ -70,38 +70,38 @@ module _ (f : ℕ → Poly) where
   some_at (suc k) a h = go (some_at k (suc a)) (f a) refl h
     where
       go : (seek k (suc a) f < suc a + k → Some (f (seek k (suc a) f))) → (q : Poly) → f a ≡ q
-          → unlessNone q a (seek k (suc a) f) < a + suc k → Some (f (unlessNone q a (seek k (suc a) f)))
+          → unless_none q a (seek k (suc a) f) < a + suc k → Some (f (unless_none q a (seek k (suc a) f)))
       go ih [] e m = ih (omega arith)
       go ih (t ∷ q) e m = subst Some (sym e) tt
 
 module _ (F : Ops) where
   -- a byte before the first one leaves no term
-  pub firstByte-before : (p : Poly) (b : ℕ) → b < firstByte F p → put F b p ≡ []
-  unfolding firstByte
-  firstByte-before p b h = none_before (λ a. put F a p) 256 0 b zero-le h
+  pub first_byte-before : (p : Poly) (b : ℕ) → b < first_byte F p → put F b p ≡ []
+  unfolding first_byte
+  first_byte-before p b h = none_before (λ a. put F a p) 256 0 b zero-le h
 
   -- the first byte leaves a term
-  pub firstByte-some : (p : Poly) → firstByte F p < 256 → Some (put F (firstByte F p) p)
-  unfolding firstByte
-  firstByte-some p h = some_at (λ a. put F a p) 256 0 h
+  pub first_byte-some : (p : Poly) → first_byte F p < 256 → Some (put F (first_byte F p) p)
+  unfolding first_byte
+  first_byte-some p h = some_at (λ a. put F a p) 256 0 h
 
 module _ (F : Ops) (L : Laws F) where
   open F use {add, mul}
   open L.ring use {add-zero}
 
   -- some byte up to the highest power of the first variable leaves a term
-  pub firstByte-bound : {n : ℕ} (d : ℕ) (ds : List ℕ) (p : Poly) → d < 256 → Canon (suc n) p → Some p
-      → Powers (Within (d ∷ ds)) p → firstByte F p ≤ d
-  firstByte-bound d ds p l h s w = go (dec_le (firstByte F p) d)
+  pub first_byte-bound : {n : ℕ} (d : ℕ) (ds : List ℕ) (p : Poly) → d < 256 → Canon (suc n) p → Some p
+      → Powers (Within (d ∷ ds)) p → first_byte F p ≤ d
+  first_byte-bound d ds p l h s w = go (dec_le (first_byte F p) d)
     where
-      go : Dec (firstByte F p ≤ d) → firstByte F p ≤ d
+      go : Dec (first_byte F p ≤ d) → first_byte F p ≤ d
       go (yes m) = m
       go (no m) =
           absurd (some_left F L d ds p (range 0 (suc d)) h s w
           (range-each (λ b. b < 256) 0 (suc d) (λ b x y. omega arith))
-          (range-different 0 (suc d))
+          (range_different 0 (suc d))
           (omega (arith, length-range 0 (suc d)))
-          (range-each (λ b. put F b p ≡ []) 0 (suc d) (λ b x y. firstByte-before F p b (omega arith))))
+          (range-each (λ b. put F b p ≡ []) 0 (suc d) (λ b x y. first_byte-before F p b (omega arith))))
 
   -- ---- no variables left: a term is a value that is not zero
 
@@ -114,7 +114,7 @@ module _ (F : Ops) (L : Laws F) where
   alone : (z e : List ℕ) (p : Poly) → e ≡ z → Above e p → Powers (λ f. f ≡ z) p → p ≡ []
   alone z e [] q a w = refl
   alone z e (term d f ∷ p) q a w =
-      absurd (eq≢lt (subst (λ (x : List ℕ). Ordering.eq ≡ order e x) (q ∙ sym w.0) (sym (order-self e)) ∙ a))
+      absurd (eq≢lt (subst (λ (x : List ℕ). Ordering.eq ≡ order e x) (q ∙ sym w.0) (sym (order_self e)) ∙ a))
 
   -- with no variable left, a polynomial with a term has a value other than zero
   pub last : (k : ℕ) (p : Poly) → Sorted p → Coefs NonzeroByte p → Powers (Spare 0 k) p → Some p → eval F p [] ≢ 0
@@ -143,54 +143,54 @@ module _ (F : Ops) (L : Laws F) where
   -- the chosen bytes lie below any bounds of the powers
   pub first-within : (v n : ℕ) (ds : List ℕ) (p : Poly) → v ≤ n → ByteList n ds → Canon n p → Some p
       → Powers (Within ds) p
-      → Within (take v ds) (firstDiffering F v p)
+      → Within (take v ds) (first_differing F v p)
   first-within zero n ds p i l h s w = tt
   first-within (suc v) zero ds p i l h s w = absurd (omega arith)
   first-within (suc v) (suc n) [] p i l h s w = absurd l
   first-within (suc v) (suc n) (d ∷ ds) p i l h s w =
-      let m : firstByte F p ≤ d = firstByte-bound d ds p (omega (arith, l.0)) h s w in
-      let a : ℕ = firstByte F p in (
+      let m : first_byte F p ≤ d = first_byte-bound d ds p (omega (arith, l.0)) h s w in
+      let a : ℕ = first_byte F p in (
         m,
         first-within v n ds (put F a p) (le_of_suc-le-suc i) l.1 (canon-put F L a p h)
-            (firstByte-some F p (omega (arith, l.0))) (put-within F d ds a p w),
+            (first_byte-some F p (omega (arith, l.0))) (put-within F d ds a p w),
       )
 
   -- the chosen bytes are bytes
-  pub first-bytes : (v n : ℕ) (p : Poly) → v ≤ n → Canon n p → Some p → ByteList v (firstDiffering F v p)
+  pub first-bytes : (v n : ℕ) (p : Poly) → v ≤ n → Canon n p → Some p → ByteList v (first_differing F v p)
   first-bytes v n p i h s =
-      subst (λ (ds : List ℕ). Within ds (firstDiffering F v p)) (take-bytes v n i)
+      subst (λ (ds : List ℕ). Within ds (first_differing F v p)) (take-bytes v n i)
       (first-within v n (replicate n 255) p i (bytes-refl n) h s h.powers)
 
   -- the value at the chosen bytes is not zero
   pub first-differs : (v k n : ℕ) (p : Poly) → Canon n p → Powers (Spare v k) p → Some p
-      → eval F p (firstDiffering F v p) ≢ 0
+      → eval F p (first_differing F v p) ≢ 0
   first-differs zero k n p h u s = last k p h.sorted h.coefs u s
   first-differs (suc v) k zero [] h u s = absurd s
   first-differs (suc v) k zero (term c [] ∷ p) h u s = absurd u.0
   first-differs (suc v) k zero (term c (a ∷ e) ∷ p) h u s = absurd h.powers.0
   first-differs (suc v) k (suc n) p h u s = λ z.
-      let a : ℕ = firstByte F p in
-      let m : a ≤ 255 = firstByte-bound 255 (replicate n 255) p (le_refl 256) h s h.powers in
-      first-differs v k n (put F a p) (canon-put F L a p h) (put-spare F v k a p u) (firstByte-some F p (omega arith))
-      (eval-put F L a p (firstDiffering F v (put F a p)) ∙ z)
+      let a : ℕ = first_byte F p in
+      let m : a ≤ 255 = first_byte-bound 255 (replicate n 255) p (le_refl 256) h s h.powers in
+      first-differs v k n (put F a p) (canon-put F L a p h) (put-spare F v k a p u) (first_byte-some F p (omega arith))
+      (eval-put F L a p (first_differing F v (put F a p)) ∙ z)
 
   -- every list that comes before has the value zero
-  pub first-least : (v : ℕ) (p : Poly) (xs : List ℕ) → Before xs (firstDiffering F v p) → eval F p xs ≡ 0
+  pub first-least : (v : ℕ) (p : Poly) (xs : List ℕ) → Before xs (first_differing F v p) → eval F p xs ≡ 0
   first-least zero p [] b = absurd b
   first-least zero p (x ∷ xs) b = absurd b
   first-least (suc n) p [] b = absurd b
-  first-least (suc n) p (x ∷ xs) b = go (first-least n (put F (firstByte F p) p) xs) b
+  first-least (suc n) p (x ∷ xs) b = go (first-least n (put F (first_byte F p) p) xs) b
     where
-      go : (Before xs (firstDiffering F n (put F (firstByte F p) p)) → eval F (put F (firstByte F p) p) xs ≡ 0)
-          → (x < firstByte F p) ⊎ ((x ≡ firstByte F p) × Before xs (firstDiffering F n (put F (firstByte F p) p)))
+      go : (Before xs (first_differing F n (put F (first_byte F p) p)) → eval F (put F (first_byte F p) p) xs ≡ 0)
+          → (x < first_byte F p) ⊎ ((x ≡ first_byte F p) × Before xs (first_differing F n (put F (first_byte F p) p)))
           → eval F p (x ∷ xs) ≡ 0
-      go ih (inl m) = sym (eval-put F L x p xs) ∙ ap (λ (q : Poly). eval F q xs) (firstByte-before F p x m)
-      go ih (inr m) = ap (λ (y : ℕ). eval F p (y ∷ xs)) m.0 ∙ sym (eval-put F L (firstByte F p) p xs) ∙ ih m.1
+      go ih (inl m) = sym (eval-put F L x p xs) ∙ ap (λ (q : Poly). eval F q xs) (first_byte-before F p x m)
+      go ih (inr m) = ap (λ (y : ℕ). eval F p (y ∷ xs)) m.0 ∙ sym (eval-put F L (first_byte F p) p xs) ∙ ih m.1
 
 -- ---- the highest powers are bounds of the powers
 
 -- a larger bound at each place is a bound too
-within-max : (e ds f : List ℕ) (n : ℕ) → ByteList n e → ByteList n ds → Within ds f → Within (maxEach e ds) f
+within-max : (e ds f : List ℕ) (n : ℕ) → ByteList n e → ByteList n ds → Within ds f → Within (max_each e ds) f
 within-max [] ds f n h k w = w
 within-max (a ∷ e) [] f zero h k w = absurd h
 within-max (a ∷ e) [] f (suc n) h k w = absurd k
@@ -199,7 +199,7 @@ within-max (a ∷ e) (d ∷ ds) (b ∷ f) zero h k w = absurd h
 within-max (a ∷ e) (d ∷ ds) (b ∷ f) (suc n) h k w = (omega (arith, w.0), within-max e ds f n h.1 k.1 w.1)
 
 -- the larger of two numbers bounds the first
-max-within : (n : ℕ) (e ds : List ℕ) → ByteList n e → ByteList n ds → Within (maxEach e ds) e
+max-within : (n : ℕ) (e ds : List ℕ) → ByteList n e → ByteList n ds → Within (max_each e ds) e
 max-within zero [] [] h k = tt
 max-within zero [] (d ∷ ds) h k = absurd k
 max-within zero (a ∷ e) ds h k = absurd h
@@ -208,7 +208,7 @@ max-within (suc n) (a ∷ e) [] h k = absurd k
 max-within (suc n) (a ∷ e) (d ∷ ds) h k = (omega arith, max-within n e ds h.1 k.1)
 
 -- the larger of two bytes is a byte
-max-bytes : (n : ℕ) (e ds : List ℕ) → ByteList n e → ByteList n ds → ByteList n (maxEach e ds)
+max-bytes : (n : ℕ) (e ds : List ℕ) → ByteList n e → ByteList n ds → ByteList n (max_each e ds)
 max-bytes zero [] ds h k = k
 max-bytes zero (a ∷ e) ds h k = absurd h
 max-bytes (suc n) [] ds h k = absurd h
@@ -225,12 +225,12 @@ pub highest-within : (n : ℕ) (p : Poly) → Powers (ByteList n) p → Powers (
 highest-within n [] h = tt
 highest-within n (term c e ∷ p) h = (
   max-within n e (highest n p) h.0 (highest-bytes n p h.1),
-  powers-map (Within (highest n p)) (Within (maxEach e (highest n p)))
+  powers-map (Within (highest n p)) (Within (max_each e (highest n p)))
       (λ f. within-max e (highest n p) f n h.0 (highest-bytes n p h.1)) p (highest-within n p h.1),
 )
 
 -- THEOREM: each chosen byte is at most the highest power of its variable
 pub first-highest : (F : Ops) → Laws F → (v n : ℕ) (p : Poly) → v ≤ n → Canon n p → Some p
-    → Within (take v (highest n p)) (firstDiffering F v p)
+    → Within (take v (highest n p)) (first_differing F v p)
 first-highest F L v n p i h s =
     first-within F L v n (highest n p) p i (highest-bytes n p h.powers) h s (highest-within n p h.powers)

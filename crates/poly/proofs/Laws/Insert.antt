@@ -6,13 +6,13 @@ use Prim.Native.Nat.{ℕ, zero, suc, ◌<◌, Ordering}
 use native.Mathlib.Omega.{arith}
 use native.Mathlib.Nat.{zero-lt-suc, add_comm as nat-add-comm}
 use Rattle.field.specs.Laws.{Ops, Ring}
-use Rattle.poly.specs.Poly.{term, Poly, reduce, addPows, order, keep, place, insert, into, normal, scale, mulRaw}
-use Rattle.poly.specs.Poly.{mulPoly}
+use Rattle.poly.specs.Poly.{term, Poly, reduce, add_pows, order, keep, place, insert, into, normal, scale, mul_raw}
+use Rattle.poly.specs.Poly.{mul_poly}
 use Rattle.poly.specs.Canon.{Coefs, Above, Sorted, Nonzero}
 use Rattle.field.proofs.Laws.Algebra.{zero-add}
-use Rattle.poly.proofs.Laws.Order.{order-self, order_same, order-gt, order_lt, order_trans}
+use Rattle.poly.proofs.Laws.Order.{order_self, order_same, order_gt, order_lt, order_trans}
 use Rattle.poly.proofs.Laws.Normal.{keep-above, insert-above}
-use Rattle.poly.proofs.Laws.Sum.{into-sorted, into-append, into-none, normal-into}
+use Rattle.poly.proofs.Laws.Sum.{into-sorted, into_append, into-none, normal-into}
 
 -- ---- no coefficient is zero
 
@@ -46,9 +46,9 @@ module _ (F : Ops) where
   into-nonzero (term c e ∷ p) q h = insert-nonzero c e (into F p q) (into-nonzero p q h)
 
   -- the products of a term and two lists joined
-  pub scale-append : (c : ℕ) (e : List ℕ) (p q : Poly) → scale F c e (p ++ q) ≡ scale F c e p ++ scale F c e q
-  scale-append c e [] q = refl
-  scale-append c e (term d f ∷ p) q = ap {B = Poly} (λ r. term (mul c d) (addPows e f) ∷ r) (scale-append c e p q)
+  pub scale_append : (c : ℕ) (e : List ℕ) (p q : Poly) → scale F c e (p ++ q) ≡ scale F c e p ++ scale F c e q
+  scale_append c e [] q = refl
+  scale_append c e (term d f ∷ p) q = ap {B = Poly} (λ r. term (mul c d) (add_pows e f) ∷ r) (scale_append c e p q)
 
   -- ---- where a term goes
 
@@ -72,7 +72,7 @@ module _ (F : Ops) (R : Ring F) where
       → insert F c e (keep d e p) ≡ keep (add c d) e p
   insert-onto c e zero p a = insert-first F c e p a ∙ ap (λ (x : ℕ). keep x e p) (sym (add-zero c))
   insert-onto c e (suc d) p a =
-      ap (λ (o : Ordering). place F o c e (suc d) e p (insert F c e p)) (order-self e)
+      ap (λ (o : Ordering). place F o c e (suc d) e p (insert F c e p)) (order_self e)
 
   -- two terms of the same powers: their sum
   insert-twice : (c d : ℕ) (e : List ℕ) (p : Poly) → Sorted p
@@ -92,12 +92,12 @@ module _ (F : Ops) (R : Ring F) where
           ∙ ap {B = Poly} (λ r. term h g ∷ r) i
 
   -- two terms change places, where the first comes before the second
-  swap-less : (c : ℕ) (e : List ℕ) (d : ℕ) (f : List ℕ) (p : Poly) → order e f ≡ Ordering.lt → Sorted p
+  swap_less : (c : ℕ) (e : List ℕ) (d : ℕ) (f : List ℕ) (p : Poly) → order e f ≡ Ordering.lt → Sorted p
       → insert F c e (insert F d f p) ≡ insert F d f (insert F c e p)
-  swap-less c e d f [] l s =
+  swap_less c e d f [] l s =
       insert-first F c e (keep d f []) (keep-above e d f [] l tt)
       ∙ sym (insert-past F d f c e [] (order_lt e f l))
-  swap-less c e d f (term h g ∷ p) l s = go (order e g) refl (swap-less c e d f p l s.1)
+  swap_less c e d f (term h g ∷ p) l s = go (order e g) refl (swap_less c e d f p l s.1)
     where
       past : order f g ≡ Ordering.gt → insert F d f (term h g ∷ p) ≡ term h g ∷ insert F d f p
       past m = ap (λ (o : Ordering). place F o d f h g p (insert F d f p)) m
@@ -114,7 +114,7 @@ module _ (F : Ops) (R : Ring F) where
           ∙ ap (λ (o : Ordering). place F o c e h g (insert F d f p) (insert F c e (insert F d f p))) k
           ∙ sym (insert-past F d f (add c h) e p (order_lt e f l))
       go Ordering.gt k i =
-          let m : order f g ≡ Ordering.gt = order_lt g f (order_trans g e f (order-gt e g k) l) in
+          let m : order f g ≡ Ordering.gt = order_lt g f (order_trans g e f (order_gt e g k) l) in
           ap (insert F c e) (past m)
           ∙ ap (λ (o : Ordering). place F o c e h g (insert F d f p) (insert F c e (insert F d f p))) k
           ∙ ap {B = Poly} (λ r. term h g ∷ r) i
@@ -126,12 +126,12 @@ module _ (F : Ops) (R : Ring F) where
   insert_comm c e d f p s = go (order e f) refl
     where
       go : (o : Ordering) → order e f ≡ o → insert F c e (insert F d f p) ≡ insert F d f (insert F c e p)
-      go Ordering.lt k = swap-less c e d f p k s
+      go Ordering.lt k = swap_less c e d f p k s
       go Ordering.eq k =
           ap (λ (x : List ℕ). insert F c e (insert F d x p)) (sym (order_same e f k)) ∙ insert-twice c d e p s
           ∙ ap (λ (x : ℕ). insert F x e p) (add_comm c d) ∙ sym (insert-twice d c e p s)
           ∙ ap (λ (x : List ℕ). insert F d x (insert F c e p)) (order_same e f k)
-      go Ordering.gt k = sym (swap-less d f c e p (order-gt e f k) s)
+      go Ordering.gt k = sym (swap_less d f c e p (order_gt e f k) s)
 
   -- ---- a list made normal first
 
@@ -184,7 +184,7 @@ module _ (F : Ops) (R : Ring F) where
   -- one term more behind a list: it is inserted behind the others
   pub into-last : (p : Poly) (c : ℕ) (e : List ℕ) (q : Poly) → Sorted q
       → into F (p ++ (term c e ∷ [])) q ≡ insert F c e (into F p q)
-  into-last p c e q s = into-append F p (term c e ∷ []) q ∙ sym (insert-into-comm c e p q s)
+  into-last p c e q s = into_append F p (term c e ∷ []) q ∙ sym (insert-into-comm c e p q s)
 
   -- two lists may be inserted in either order
   pub into-comm : (p q r : Poly) → Sorted r → into F p (into F q r) ≡ into F q (into F p r)
@@ -193,36 +193,36 @@ module _ (F : Ops) (R : Ring F) where
       ap (insert F c e) (into-comm p q r s) ∙ insert-into-comm c e q (into F p r) (into-sorted F p r s)
 
   -- the powers of a product do not depend on the order of its factors
-  addPows-comm : (e f : List ℕ) → addPows e f ≡ addPows f e
-  addPows-comm [] [] = refl
-  addPows-comm [] (b ∷ f) = refl
-  addPows-comm (a ∷ e) [] = refl
-  addPows-comm (a ∷ e) (b ∷ f) = ap₂ ◌∷◌ (ap (λ (x : ℕ). reduce x) (nat-add-comm a b)) (addPows-comm e f)
+  add_pows-comm : (e f : List ℕ) → add_pows e f ≡ add_pows f e
+  add_pows-comm [] [] = refl
+  add_pows-comm [] (b ∷ f) = refl
+  add_pows-comm (a ∷ e) [] = refl
+  add_pows-comm (a ∷ e) (b ∷ f) = ap₂ ◌∷◌ (ap (λ (x : ℕ). reduce x) (nat-add-comm a b)) (add_pows-comm e f)
 
   -- no term times anything
-  mulRaw-none : (p : Poly) → mulRaw F p [] ≡ []
-  mulRaw-none [] = refl
-  mulRaw-none (term c e ∷ p) = mulRaw-none p
+  mul_raw-none : (p : Poly) → mul_raw F p [] ≡ []
+  mul_raw-none [] = refl
+  mul_raw-none (term c e ∷ p) = mul_raw-none p
 
   -- one term more in the right factor
   mul_right : (p : Poly) (d : ℕ) (f : List ℕ) (q : Poly)
-      → mulPoly F p (term d f ∷ q) ≡ into F (scale F d f p) (mulPoly F p q)
+      → mul_poly F p (term d f ∷ q) ≡ into F (scale F d f p) (mul_poly F p q)
   mul_right [] d f q = refl
   mul_right (term c e ∷ p) d f q =
-      ap₂ (λ (x : ℕ) (y : List ℕ). insert F x y (normal F (scale F c e q ++ mulRaw F p (term d f ∷ q))))
-      (mul_comm c d) (addPows-comm e f)
-      ∙ ap (insert F (mul d c) (addPows f e))
-      (normal-into F (scale F c e q) (mulRaw F p (term d f ∷ q))
+      ap₂ (λ (x : ℕ) (y : List ℕ). insert F x y (normal F (scale F c e q ++ mul_raw F p (term d f ∷ q))))
+      (mul_comm c d) (add_pows-comm e f)
+      ∙ ap (insert F (mul d c) (add_pows f e))
+      (normal-into F (scale F c e q) (mul_raw F p (term d f ∷ q))
       ∙ ap (into F (scale F c e q)) (mul_right p d f q)
-      ∙ into-comm (scale F c e q) (scale F d f p) (mulPoly F p q) (normal-sorted (mulRaw F p q))
-      ∙ ap (into F (scale F d f p)) (sym (normal-into F (scale F c e q) (mulRaw F p q))))
+      ∙ into-comm (scale F c e q) (scale F d f p) (mul_poly F p q) (normal-sorted (mul_raw F p q))
+      ∙ ap (into F (scale F d f p)) (sym (normal-into F (scale F c e q) (mul_raw F p q))))
     where
       normal-sorted : (p : Poly) → Sorted (normal F p)
       normal-sorted p = subst Sorted (into-none F p) (into-sorted F p [] tt)
 
   -- THEOREM: the factors of a product change places
-  pub mul-comm-poly : (p q : Poly) → mulPoly F p q ≡ mulPoly F q p
-  mul-comm-poly [] q = ap (normal F) (sym (mulRaw-none q))
-  mul-comm-poly (term c e ∷ p) q =
-      normal-into F (scale F c e q) (mulRaw F p q) ∙ ap (into F (scale F c e q)) (mul-comm-poly p q)
+  pub mul_comm_poly : (p q : Poly) → mul_poly F p q ≡ mul_poly F q p
+  mul_comm_poly [] q = ap (normal F) (sym (mul_raw-none q))
+  mul_comm_poly (term c e ∷ p) q =
+      normal-into F (scale F c e q) (mul_raw F p q) ∙ ap (into F (scale F c e q)) (mul_comm_poly p q)
       ∙ sym (mul_right q c e p)

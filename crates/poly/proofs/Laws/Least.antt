@@ -12,7 +12,7 @@ use lib.ListN.{length, take}
 use Rattle.field.specs.Laws.{Ops, Laws}
 use Rattle.poly.specs.Poly.{Poly}
 use Rattle.poly.specs.Value.{eval}
-use Rattle.poly.specs.First.{firstDiffering, highest, sum, tried, Differing}
+use Rattle.poly.specs.First.{first_differing, highest, sum, tried, Differing}
 use Rattle.poly.specs.Canon.{Within, ByteList, Spare, Powers, Canon, Some, Before}
 use Rattle.poly.proofs.Laws.Reduced.{all-used}
 use Rattle.poly.proofs.Laws.First.{first-bytes, first-differs, first-least, first-highest}
@@ -53,28 +53,28 @@ place (suc n) (x ∷ xs) (y ∷ ys) h k =
 pub first-only : (F : Ops) → Laws F → (v k n : ℕ) (p : Poly) (xs : List ℕ) → v ≤ n → Canon n p → Powers (Spare v k) p
     → Some p
     → ByteList v xs → eval F p xs ≢ 0 → ((ys : List ℕ) → ByteList v ys → Before ys xs → eval F p ys ≡ 0)
-    → xs ≡ firstDiffering F v p
-first-only F L v k n p xs i h u s b d z = go (place v xs (firstDiffering F v p) b (first-bytes F L v n p i h s))
+    → xs ≡ first_differing F v p
+first-only F L v k n p xs i h u s b d z = go (place v xs (first_differing F v p) b (first-bytes F L v n p i h s))
   where
-    go : Place xs (firstDiffering F v p) → xs ≡ firstDiffering F v p
+    go : Place xs (first_differing F v p) → xs ≡ first_differing F v p
     go (before l) = absurd (d (first-least F L v p xs l))
     go (same e) = e
-    go (after l) = absurd (first-differs F L v k n p h u s (z (firstDiffering F v p) (first-bytes F L v n p i h s) l))
+    go (after l) = absurd (first-differs F L v k n p h u s (z (first_differing F v p) (first-bytes F L v n p i h s) l))
 
 -- THEOREM: at the first differing bytes of a reduced polynomial with a term the value is not zero, and at every list
 -- before them it is zero
-pub first-differing : (F : Ops) → Laws F → (n : ℕ) (p : Poly) → Canon n p → Some p
-    → Differing F n p (firstDiffering F n p)
-first-differing F L n p h s = record {
+pub first_differing_lem : (F : Ops) → Laws F → (n : ℕ) (p : Poly) → Canon n p → Some p
+    → Differing F n p (first_differing F n p)
+first_differing_lem F L n p h s = record {
   bytes = first-bytes F L n n p (le_refl n) h s;
   differ = first-differs F L n 0 n p h (all-used n p h) s;
   least = λ ys b l. first-least F L n p ys l;
 }
 
 -- THEOREM: no second list of bytes is first
-pub first-unique : (F : Ops) → Laws F → (n : ℕ) (p : Poly) (xs : List ℕ) → Canon n p → Some p → Differing F n p xs
-    → xs ≡ firstDiffering F n p
-first-unique F L n p xs h s d =
+pub first_unique : (F : Ops) → Laws F → (n : ℕ) (p : Poly) (xs : List ℕ) → Canon n p → Some p → Differing F n p xs
+    → xs ≡ first_differing F n p
+first_unique F L n p xs h s d =
     first-only F L n 0 n p xs (le_refl n) h (all-used n p h) s d.bytes d.differ d.least
 
 -- ---- the count
@@ -87,16 +87,16 @@ sum-within (d ∷ ds) [] h = absurd h
 sum-within (d ∷ ds) (x ∷ xs) h = omega (arith, h.0, sum-within ds xs h.1)
 
 -- there is a byte for each variable
-pub length-first : (F : Ops) (v : ℕ) (p : Poly) → length (firstDiffering F v p) ≡ v
+pub length-first : (F : Ops) (v : ℕ) (p : Poly) → length (first_differing F v p) ≡ v
 length-first F zero p = refl
 length-first F (suc v) p = ap suc (length-first F v _)
 
 -- THEOREM: the bytes tried are at most the highest powers together, and one more for each variable
 pub tried-bound : (F : Ops) → Laws F → (v n : ℕ) (p : Poly) → v ≤ n → Canon n p → Some p
-    → tried (firstDiffering F v p) ≤ sum (take v (highest n p)) + v
+    → tried (first_differing F v p) ≤ sum (take v (highest n p)) + v
 tried-bound F L v n p i h s =
     omega (
       arith,
-      sum-within (take v (highest n p)) (firstDiffering F v p) (first-highest F L v n p i h s),
+      sum-within (take v (highest n p)) (first_differing F v p) (first-highest F L v n p i h s),
       length-first F v p,
     )

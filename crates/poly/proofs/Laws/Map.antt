@@ -7,16 +7,16 @@ use native.Mathlib.Omega.{arith}
 use native.Mathlib.Nat.{zero-mul, one-mul}
 use lib.ListN.{length}
 use Rattle.field.specs.Laws.{Ops, Laws}
-use Rattle.poly.specs.Poly.{term, Poly, order, constant, into, normal, scale, square, linearRaw, mapPoly}
+use Rattle.poly.specs.Poly.{term, Poly, order, constant, into, normal, scale, square, linear_raw, map_poly}
 use Rattle.poly.specs.Value.{only, coef}
 use Rattle.poly.specs.Canon.{Canon, Raw}
-use Rattle.poly.specs.Size.{oneIf}
-use Rattle.poly.specs.Poly.{unlessZero}
+use Rattle.poly.specs.Size.{one_if}
+use Rattle.poly.specs.Poly.{unless_zero}
 use Rattle.field.proofs.Laws.Algebra.{zero-mul as mul-zero-left, zero-add}
 use Rattle.poly.proofs.Laws.Normal.{canon-raw, insert-canon, only_zero, coef-insert}
 use Rattle.poly.proofs.Laws.Normal.{same-normal}
-use Rattle.poly.proofs.Laws.Reduced.{addPows-bytes, canon-constant}
-use Rattle.poly.proofs.Laws.Sum.{raw-append, coef-append, sum_comm}
+use Rattle.poly.proofs.Laws.Reduced.{add_pows-bytes, canon-constant}
+use Rattle.poly.proofs.Laws.Sum.{raw_append, coef_append, sum_comm}
 use Rattle.poly.proofs.Laws.Size.{length-scale}
 use Rattle.poly.proofs.Laws.Sum.{into-length}
 
@@ -28,7 +28,7 @@ square-raw F L {n} (term c e ∷ p) h =
     record {
       coefs = (L.ring.mul-byte c c, r.coefs);
       powers =
-          (addPows-bytes n e e h.powers.0 h.powers.0, r.powers);
+          (add_pows-bytes n e e h.powers.0 h.powers.0, r.powers);
     }
 
 -- the scaled terms hold bytes
@@ -39,25 +39,25 @@ scale-raw F L {n} l (term c e ∷ p) h =
     record { coefs = (L.ring.mul-byte l c, r.coefs); powers = (h.powers.0, r.powers) }
 
 -- the terms of a row: none where its coefficient is zero
-pub unless-length : (F : Ops) (l : ℕ) (p : Poly) → length (unlessZero l (scale F l [] p)) ≡ oneIf l * length p
+pub unless-length : (F : Ops) (l : ℕ) (p : Poly) → length (unless_zero l (scale F l [] p)) ≡ one_if l * length p
 unless-length F zero p = sym (zero-mul (length p))
 unless-length F (suc l) p = length-scale F (suc l) [] p ∙ sym (one-mul (length p))
 
 -- a row inserted adds no more terms than it has
 pub unless-into : (F : Ops) (l : ℕ) (p d : Poly)
-    → length (into F (unlessZero l (scale F l [] p)) d) ≤ oneIf l * length p + length d
-unless-into F l p d = omega (arith, into-length F (unlessZero l (scale F l [] p)) d, unless-length F l p)
+    → length (into F (unless_zero l (scale F l [] p)) d) ≤ one_if l * length p + length d
+unless-into F l p d = omega (arith, into-length F (unless_zero l (scale F l [] p)) d, unless-length F l p)
 
 module _ (F : Ops) (L : Laws F) where
   open F use {add, mul}
   open L.ring use {add_comm, add_assoc}
 
   -- the terms of a map hold bytes
-  linear-raw : {n : ℕ} (ls : List ℕ) (p : Poly) → Raw n p → Raw n (linearRaw F ls p)
-  linear-raw [] p h = record { coefs = tt; powers = tt }
-  linear-raw (l ∷ ls) p h =
-      raw-append (scale F l [] p) (linearRaw F ls (square F p)) (scale-raw F L l p h)
-      (linear-raw ls (square F p) (square-raw F L p h))
+  linear_raw_lem : {n : ℕ} (ls : List ℕ) (p : Poly) → Raw n p → Raw n (linear_raw F ls p)
+  linear_raw_lem [] p h = record { coefs = tt; powers = tt }
+  linear_raw_lem (l ∷ ls) p h =
+      raw_append (scale F l [] p) (linear_raw F ls (square F p)) (scale-raw F L l p h)
+      (linear_raw_lem ls (square F p) (square-raw F L p h))
 
   -- terms inserted into a reduced polynomial give a reduced polynomial
   pub into-canon : {n : ℕ} (p q : Poly) → Raw n p → Canon n q → Canon n (into F p q)
@@ -81,36 +81,36 @@ module _ (F : Ops) (L : Laws F) where
       ∙ zero-add L.ring 0
 
   -- the terms of a coefficient of zero may be left out
-  coef-unless : (l : ℕ) (p : Poly) (x : List ℕ) → coef F (unlessZero l (scale F l [] p)) x ≡ coef F (scale F l [] p) x
+  coef-unless : (l : ℕ) (p : Poly) (x : List ℕ) → coef F (unless_zero l (scale F l [] p)) x ≡ coef F (scale F l [] p) x
   coef-unless zero p x = sym (coef-scale-zero p x)
   coef-unless (suc l) p x = refl
 
   -- what is left of them holds bytes
-  pub unless-raw : {n : ℕ} (l : ℕ) (p : Poly) → Raw n p → Raw n (unlessZero l (scale F l [] p))
+  pub unless-raw : {n : ℕ} (l : ℕ) (p : Poly) → Raw n p → Raw n (unless_zero l (scale F l [] p))
   unless-raw zero p h = record { coefs = tt; powers = tt }
   unless-raw (suc l) p h = scale-raw F L (suc l) p h
 
   -- THEOREM: the first coefficient's terms inserted, and the rest squared, leave the whole as it was
   pub map-step : {n : ℕ} (l : ℕ) (ls : List ℕ) (p d : Poly) → Raw n p → Canon n d
-      → normal F (linearRaw F ls (square F p) ++ into F (unlessZero l (scale F l [] p)) d)
-      ≡ normal F (linearRaw F (l ∷ ls) p ++ d)
+      → normal F (linear_raw F ls (square F p) ++ into F (unless_zero l (scale F l [] p)) d)
+      ≡ normal F (linear_raw F (l ∷ ls) p ++ d)
   map-step l ls p d h k =
-      let R : Poly = linearRaw F ls (square F p) in
+      let R : Poly = linear_raw F ls (square F p) in
       let S : Poly = scale F l [] p in
-      let U : Poly = unlessZero l S in
+      let U : Poly = unless_zero l S in
       same-normal F L (R ++ into F U d) ((S ++ R) ++ d)
-      (raw-append R (into F U d) (linear-raw ls (square F p) (square-raw F L p h))
+      (raw_append R (into F U d) (linear_raw_lem ls (square F p) (square-raw F L p h))
       (canon-raw (into-canon U d (unless-raw l p h) k)))
-      (raw-append (S ++ R) d (linear-raw (l ∷ ls) p h) (canon-raw k))
+      (raw_append (S ++ R) d (linear_raw_lem (l ∷ ls) p h) (canon-raw k))
       (λ x.
-      coef-append F L R (into F U d) x
+      coef_append F L R (into F U d) x
       ∙ ap (add (coef F R x)) (coef-into U d x ∙ ap (λ (y : ℕ). add y (coef F d x)) (coef-unless l p x))
       ∙ sym (add_assoc (coef F R x) (coef F S x) (coef F d x))
-      ∙ ap (λ (y : ℕ). add y (coef F d x)) (add_comm (coef F R x) (coef F S x) ∙ sym (coef-append F L S R x))
-      ∙ sym (coef-append F L (S ++ R) d x))
+      ∙ ap (λ (y : ℕ). add y (coef F d x)) (add_comm (coef F R x) (coef F S x) ∙ sym (coef_append F L S R x))
+      ∙ sym (coef_append F L (S ++ R) d x))
 
   -- at first the constant stands there
   pub map_first : (n c : ℕ) (ls : List ℕ) (p : Poly) → c < 256 → Raw n p
-      → normal F (linearRaw F ls p ++ constant n c) ≡ mapPoly F n c ls p
+      → normal F (linear_raw F ls p ++ constant n c) ≡ map_poly F n c ls p
   map_first n c ls p h k =
-      sum_comm F L (linearRaw F ls p) (constant n c) (linear-raw ls p k) (canon-raw (canon-constant n c h))
+      sum_comm F L (linear_raw F ls p) (constant n c) (linear_raw_lem ls p k) (canon-raw (canon-constant n c h))

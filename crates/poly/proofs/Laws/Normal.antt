@@ -9,15 +9,15 @@ use Rattle.field.specs.Laws.{Ops, Laws}
 use Rattle.poly.specs.Poly.{term, Poly, order, keep, place, insert, normal}
 use Rattle.poly.specs.Value.{only, total, coef}
 use Rattle.poly.specs.Canon.{ByteList, Powers, Coefs, Above, Sorted, Byte, NonzeroByte, Canon, Raw}
-use Rattle.poly.proofs.Laws.Order.{order-self, order_same, order-gt, order_lt, order_trans}
-use Rattle.field.proofs.Laws.Algebra.{zero-add, add_left_comm, add-cancel}
+use Rattle.poly.proofs.Laws.Order.{order_self, order_same, order_gt, order_lt, order_trans}
+use Rattle.field.proofs.Laws.Algebra.{zero-add, add_left_comm, add_cancel}
 
 -- ---- the order of a list's heads
 
 -- what comes before the head's predecessor comes before the head
-pub above-trans : (x e : List ℕ) (p : Poly) → order x e ≡ Ordering.lt → Above e p → Above x p
-above-trans x e [] h a = tt
-above-trans x e (term d f ∷ p) h a = order_trans x e f h a
+pub above_trans : (x e : List ℕ) (p : Poly) → order x e ≡ Ordering.lt → Above e p → Above x p
+above_trans x e [] h a = tt
+above_trans x e (term d f ∷ p) h a = order_trans x e f h a
 
 -- powers that come before a term and a list come before both
 pub keep-above : (x : List ℕ) (c : ℕ) (e : List ℕ) (p : Poly) → order x e ≡ Ordering.lt → Above x p
@@ -43,14 +43,14 @@ keep-powers P (suc c) e p h k = (h, k)
 -- ---- lists joined
 
 -- what holds of the powers of two lists holds of the lists joined
-pub powers-append : (P : List ℕ → Type 0) (p q : Poly) → Powers P p → Powers P q → Powers P (p ++ q)
-powers-append P [] q h k = k
-powers-append P (term c e ∷ p) q h k = (h.0, powers-append P p q h.1 k)
+pub powers_append : (P : List ℕ → Type 0) (p q : Poly) → Powers P p → Powers P q → Powers P (p ++ q)
+powers_append P [] q h k = k
+powers_append P (term c e ∷ p) q h k = (h.0, powers_append P p q h.1 k)
 
 -- what holds of the coefficients of two lists holds of the lists joined
-pub coefs-append : (P : ℕ → Type 0) (p q : Poly) → Coefs P p → Coefs P q → Coefs P (p ++ q)
-coefs-append P [] q h k = k
-coefs-append P (term c e ∷ p) q h k = (h.0, coefs-append P p q h.1 k)
+pub coefs_append : (P : ℕ → Type 0) (p q : Poly) → Coefs P p → Coefs P q → Coefs P (p ++ q)
+coefs_append P [] q h k = k
+coefs_append P (term c e ∷ p) q h k = (h.0, coefs_append P p q h.1 k)
 
 -- what holds of each coefficient may be weakened
 pub coefs-map : (P Q : ℕ → Type 0) → ((c : ℕ) → P c → Q c) → (p : Poly) → Coefs P p → Coefs Q p
@@ -96,7 +96,7 @@ module _ (F : Ops) where
       → order x e ≡ Ordering.lt → order x f ≡ Ordering.lt
       → Above f p → Above x (place F o c e d f p r)
   place-above x Ordering.lt c e d f p r he hf a = keep-above x c e (term d f ∷ p) he hf
-  place-above x Ordering.eq c e d f p r he hf a = keep-above x (add c d) e p he (above-trans x f p hf a)
+  place-above x Ordering.eq c e d f p r he hf a = keep-above x (add c d) e p he (above_trans x f p hf a)
   place-above x Ordering.gt c e d f p r he hf a = hf
 
   -- powers that come before a list and a term come before the term inserted
@@ -112,7 +112,7 @@ module _ (F : Ops) where
   place-sorted Ordering.lt c e d f p r h a s ar sr = keep-sorted c e (term d f ∷ p) h (a, s)
   place-sorted Ordering.eq c e d f p r h a s ar sr =
       keep-sorted (add c d) e p (subst⁻¹ (λ (x : List ℕ). Above x p) (order_same e f h) a) s
-  place-sorted Ordering.gt c e d f p r h a s ar sr = (ar (order-gt e f h), sr)
+  place-sorted Ordering.gt c e d f p r h a s ar sr = (ar (order_gt e f h), sr)
 
   -- an insertion leaves the terms ascending
   pub insert-sorted : (c : ℕ) (e : List ℕ) (p : Poly) → Sorted p → Sorted (insert F c e p)
@@ -203,10 +203,10 @@ module _ (F : Ops) (L : Laws F) where
     normal-total (term c e ∷ p) = insert-total c e (normal F p) ∙ ap (λ (x : ℕ). add (w c e) x) (normal-total p)
 
   -- the sum over two lists joined
-  pub total-append : (w : ℕ → List ℕ → ℕ) (p q : Poly) → total F w (p ++ q) ≡ add (total F w p) (total F w q)
-  total-append w [] q = sym (zero-add L.ring (total F w q))
-  total-append w (term c e ∷ p) q =
-      ap (λ (x : ℕ). add (w c e) x) (total-append w p q) ∙ sym (add_assoc (w c e) (total F w p) (total F w q))
+  pub total_append : (w : ℕ → List ℕ → ℕ) (p q : Poly) → total F w (p ++ q) ≡ add (total F w p) (total F w q)
+  total_append w [] q = sym (zero-add L.ring (total F w q))
+  total_append w (term c e ∷ p) q =
+      ap (λ (x : ℕ). add (w c e) x) (total_append w p q) ∙ sym (add_assoc (w c e) (total F w p) (total F w q))
 
   -- ---- coefficients
 
@@ -237,41 +237,41 @@ module _ (F : Ops) (L : Laws F) where
   pub coef-below : (x : List ℕ) (p : Poly) → Above x p → Sorted p → coef F p x ≡ 0
   coef-below x [] a s = refl
   coef-below x (term c e ∷ p) a s =
-      ap₂ add (ap (λ (o : Ordering). only o c) (order_lt x e a)) (coef-below x p (above-trans x e p a s.0) s.1)
+      ap₂ add (ap (λ (o : Ordering). only o c) (order_lt x e a)) (coef-below x p (above_trans x e p a s.0) s.1)
       ∙ add-zero 0
 
   -- the first term's coefficient
-  pub coef-head : (c : ℕ) (e : List ℕ) (p : Poly) → Above e p → Sorted p → coef F (term c e ∷ p) e ≡ c
-  coef-head c e p a s =
-      ap₂ add (ap (λ (o : Ordering). only o c) (order-self e)) (coef-below e p a s) ∙ add-zero c
+  pub coef_head : (c : ℕ) (e : List ℕ) (p : Poly) → Above e p → Sorted p → coef F (term c e ∷ p) e ≡ c
+  coef_head c e p a s =
+      ap₂ add (ap (λ (o : Ordering). only o c) (order_self e)) (coef-below e p a s) ∙ add-zero c
 
   -- the first coefficient is not zero
-  no-zero-head : (c : ℕ) (e : List ℕ) (p : Poly) → 0 < c → Above e p → Sorted p → coef F (term c e ∷ p) e ≡ 0 → ⊥
-  no-zero-head c e p h a s z = let q : c ≡ 0 = sym (coef-head c e p a s) ∙ z in omega arith
+  no_zero_head : (c : ℕ) (e : List ℕ) (p : Poly) → 0 < c → Above e p → Sorted p → coef F (term c e ∷ p) e ≡ 0 → ⊥
+  no_zero_head c e p h a s z = let q : c ≡ 0 = sym (coef_head c e p a s) ∙ z in omega arith
 
   -- the two heads are one, and then the tails have the same coefficients
   heads : (o : Ordering) (c d : ℕ) (e f : List ℕ) (p q : Poly) → order e f ≡ o → 0 < c → 0 < d → Sorted (term c e ∷ p)
       → Sorted (term d f ∷ q)
       → ((x : List ℕ) → coef F (term c e ∷ p) x ≡ coef F (term d f ∷ q) x) → (c ≡ d) × (e ≡ f)
   heads Ordering.lt c d e f p q o hc hd s t h =
-      absurd (no-zero-head c e p hc s.0 s.1 (h e ∙ coef-below e (term d f ∷ q) o t))
+      absurd (no_zero_head c e p hc s.0 s.1 (h e ∙ coef-below e (term d f ∷ q) o t))
   heads Ordering.gt c d e f p q o hc hd s t h =
-      absurd (no-zero-head d f q hd t.0 t.1 (sym (h f) ∙ coef-below f (term c e ∷ p) (order-gt e f o) s))
+      absurd (no_zero_head d f q hd t.0 t.1 (sym (h f) ∙ coef-below f (term c e ∷ p) (order_gt e f o) s))
   heads Ordering.eq c d e f p q o hc hd s t h =
       let r : e ≡ f = order_same e f o in
-      (sym (coef-head c e p s.0 s.1) ∙ h e ∙ ap (coef F (term d f ∷ q)) r ∙ coef-head d f q t.0 t.1, r)
+      (sym (coef_head c e p s.0 s.1) ∙ h e ∙ ap (coef F (term d f ∷ q)) r ∙ coef_head d f q t.0 t.1, r)
 
   -- THEOREM: reduced polynomials with the same coefficients are the same list
   pub same-coefs : (p q : Poly) → Sorted p → Sorted q → Coefs NonzeroByte p → Coefs NonzeroByte q
       → ((x : List ℕ) → coef F p x ≡ coef F q x) → p ≡ q
   same-coefs [] [] s t hp hq h = refl
-  same-coefs [] (term d f ∷ q) s t hp hq h = absurd (no-zero-head d f q hq.0.0 t.0 t.1 (sym (h f)))
-  same-coefs (term c e ∷ p) [] s t hp hq h = absurd (no-zero-head c e p hp.0.0 s.0 s.1 (h e))
+  same-coefs [] (term d f ∷ q) s t hp hq h = absurd (no_zero_head d f q hq.0.0 t.0 t.1 (sym (h f)))
+  same-coefs (term c e ∷ p) [] s t hp hq h = absurd (no_zero_head c e p hp.0.0 s.0 s.1 (h e))
   same-coefs (term c e ∷ p) (term d f ∷ q) s t hp hq h =
       let r = heads (order e f) c d e f p q refl hp.0.0 hq.0.0 s t h in
       ap₂ ◌∷◌ (ap₂ term r.0 r.1)
       (same-coefs p q s.1 t.1 hp.1 hq.1 (λ x.
-      add-cancel L.ring (only (order e x) c) (coef F p x) (coef F q x)
+      add_cancel L.ring (only (order e x) c) (coef F p x) (coef F q x)
       (h x ∙ ap₂ (λ (k : ℕ) (g : List ℕ). add (only (order g x) k) (coef F q x)) (sym r.0) (sym r.1))))
 
   -- two lists of terms have one normal form where their coefficients are the same

@@ -14,25 +14,25 @@ use Rattle.field.specs.Field.{power}
 use Rattle.field.specs.Laws.{Ops, Laws}
 use Rattle.poly.specs.Poly.{term, Poly}
 use Rattle.poly.specs.Value.{mono, eval}
-use Rattle.poly.specs.First.{putSlotRaw, putSlot}
+use Rattle.poly.specs.First.{put_slot_raw, put_slot}
 use Rattle.poly.specs.Canon.{ByteList, Spare, Powers, Canon}
-use Rattle.poly.specs.Occurs.{occurs, someOccurs, Without}
+use Rattle.poly.specs.Occurs.{occurs, some_occurs, Without}
 use Rattle.poly.proofs.Laws.Normal.{normal-powers}
-use Rattle.poly.proofs.Laws.Put.{canon-putSlot, eval-putSlot}
-use Rattle.poly.proofs.Laws.Unique.{terms-unique-spare}
+use Rattle.poly.proofs.Laws.Put.{canon-put_slot, eval-put_slot}
+use Rattle.poly.proofs.Laws.Unique.{terms_unique_spare}
 
 -- ---- the test, and what it says
 
 -- neither of two
-or-false : (a b : Bool) → a || b ≡ false → (a ≡ false) × (b ≡ false)
-or-false true b h = let z : ◌≡◌ {A = ℕ} 0 1 = cc in absurd (omega arith)
-or-false false b h = (refl, h)
+or_false : (a b : Bool) → a || b ≡ false → (a ≡ false) × (b ≡ false)
+or_false true b h = let z : ◌≡◌ {A = ℕ} 0 1 = cc in absurd (omega arith)
+or_false false b h = (refl, h)
 
 -- a variable that does not occur has no power in the first term, and does not occur in the others
 occurs-first : (i c : ℕ) (e : List ℕ) (p : Poly) → occurs i (term c e ∷ p) ≡ false → Without i e × (occurs i p ≡ false)
 unfolding occurs
 occurs-first i c e p h =
-    let k = or-false (ltb 0 (get_or e i 0)) (occurs i p) h in
+    let k = or_false (ltb 0 (get_or e i 0)) (occurs i p) h in
     let z : get_or e i 0 ≤ 0 = ltb-false 0 (get_or e i 0) k.0 in
     (omega arith, k.1)
 
@@ -52,27 +52,27 @@ unfolding occurs
 occurs-none i = refl
 
 -- a variable that has no power in any term does not occur
-without-occurs : (i : ℕ) (p : Poly) → Powers (Without i) p → occurs i p ≡ false
-without-occurs i [] h = occurs-none i
-without-occurs i (term c e ∷ p) h = occurs-later i c e p h.0 ∙ without-occurs i p h.1
+without_occurs : (i : ℕ) (p : Poly) → Powers (Without i) p → occurs i p ≡ false
+without_occurs i [] h = occurs-none i
+without_occurs i (term c e ∷ p) h = occurs-later i c e p h.0 ∙ without_occurs i p h.1
 
 -- none of no variables occurs
-pub some-begin : (i : ℕ) (p : Poly) → someOccurs i 0 p ≡ false
-unfolding someOccurs
-some-begin i p = refl
+pub some_begin : (i : ℕ) (p : Poly) → some_occurs i 0 p ≡ false
+unfolding some_occurs
+some_begin i p = refl
 
 -- nor does one of k + 1, where none of the first k does and the last does not
-pub some-pass : (i k : ℕ) (p : Poly) → someOccurs i k p ≡ false → occurs (i + k) p ≡ false
-    → someOccurs i (suc k) p ≡ false
-unfolding someOccurs
+pub some-pass : (i k : ℕ) (p : Poly) → some_occurs i k p ≡ false → occurs (i + k) p ≡ false
+    → some_occurs i (suc k) p ≡ false
+unfolding some_occurs
 some-pass i k p h e = ap₂ ◌||◌ h e
 
 -- none of k variables occurs
-pub some-none : (i k : ℕ) (p : Poly) → someOccurs i k p ≡ false → (j : ℕ) → j < k → occurs (i + j) p ≡ false
-unfolding someOccurs
+pub some-none : (i k : ℕ) (p : Poly) → some_occurs i k p ≡ false → (j : ℕ) → j < k → occurs (i + j) p ≡ false
+unfolding some_occurs
 some-none i zero p h j l = absurd (omega arith)
 some-none i (suc k) p h j l =
-    let both = or-false (someOccurs i k p) (occurs (i + k) p) h in
+    let both = or_false (some_occurs i k p) (occurs (i + k) p) h in
     go (ltb j k) refl (some-none i k p both.0 j) both.1
   where
     go : (b : Bool) → ltb j k ≡ b → (j < k → occurs (i + j) p ≡ false) → occurs (i + k) p ≡ false
@@ -83,26 +83,26 @@ some-none i (suc k) p h j l =
         ap (λ (x : ℕ). occurs (i + x) p) z ∙ at
 
 -- where each does not occur, none does
-pub none-some : (i k : ℕ) (p : Poly) → ((j : ℕ) → j < k → occurs (i + j) p ≡ false) → someOccurs i k p ≡ false
-none-some i zero p h = some-begin i p
+pub none-some : (i k : ℕ) (p : Poly) → ((j : ℕ) → j < k → occurs (i + j) p ≡ false) → some_occurs i k p ≡ false
+none-some i zero p h = some_begin i p
 none-some i (suc k) p h = some-pass i k p (none-some i k p (λ j l. h j (omega arith))) (h k (omega arith))
 
 -- where one occurs, some do
-pub some-stop : (i k j : ℕ) (p : Poly) → j < k → occurs (i + j) p ≡ true → someOccurs i k p ≡ true
-some-stop i k j p l h = go (someOccurs i k p) refl
+pub some-stop : (i k j : ℕ) (p : Poly) → j < k → occurs (i + j) p ≡ true → some_occurs i k p ≡ true
+some-stop i k j p l h = go (some_occurs i k p) refl
   where
-    go : (x : Bool) → someOccurs i k p ≡ x → someOccurs i k p ≡ true
+    go : (x : Bool) → some_occurs i k p ≡ x → some_occurs i k p ≡ true
     go true e = e
     go false e = let f = some-none i k p e j l in let z : ◌≡◌ {A = ℕ} 0 1 = cc in absurd (omega arith)
 
 -- ---- powers of a variable made zero
 
 -- it has none then
-set-without : (i : ℕ) (e : List ℕ) → Without i (set e i 0)
-set-without zero [] = refl
-set-without (suc i) [] = refl
-set-without zero (k ∷ e) = refl
-set-without (suc i) (k ∷ e) = set-without i e
+set_without : (i : ℕ) (e : List ℕ) → Without i (set e i 0)
+set_without zero [] = refl
+set_without (suc i) [] = refl
+set_without zero (k ∷ e) = refl
+set_without (suc i) (k ∷ e) = set_without i e
 
 -- no variable comes into use
 set-spare : (v k i : ℕ) (e : List ℕ) → i < v → Spare v k e → Spare v k (set e i 0)
@@ -112,14 +112,14 @@ set-spare (suc v) k zero (a ∷ e) l h = h
 set-spare (suc v) k (suc i) (a ∷ e) l h = set-spare v k i e (le_of_suc-le-suc l) h
 
 -- each term's powers after a byte is put in
-putSlotRaw-powers : (F : Ops) (P Q : List ℕ → Type 0) (i a : ℕ) → ((e : List ℕ) → P e → Q (set e i 0)) → (p : Poly)
-    → Powers P p → Powers Q (putSlotRaw F i a p)
-putSlotRaw-powers F P Q i a g [] h = tt
-putSlotRaw-powers F P Q i a g (term c e ∷ p) h = (g e h.0, putSlotRaw-powers F P Q i a g p h.1)
+put_slot_raw-powers : (F : Ops) (P Q : List ℕ → Type 0) (i a : ℕ) → ((e : List ℕ) → P e → Q (set e i 0)) → (p : Poly)
+    → Powers P p → Powers Q (put_slot_raw F i a p)
+put_slot_raw-powers F P Q i a g [] h = tt
+put_slot_raw-powers F P Q i a g (term c e ∷ p) h = (g e h.0, put_slot_raw-powers F P Q i a g p h.1)
 
-putSlot-powers : (F : Ops) (P Q : List ℕ → Type 0) (i a : ℕ) → ((e : List ℕ) → P e → Q (set e i 0)) → (p : Poly)
-    → Powers P p → Powers Q (putSlot F i a p)
-putSlot-powers F P Q i a g p h = normal-powers F Q (putSlotRaw F i a p) (putSlotRaw-powers F P Q i a g p h)
+put_slot-powers : (F : Ops) (P Q : List ℕ → Type 0) (i a : ℕ) → ((e : List ℕ) → P e → Q (set e i 0)) → (p : Poly)
+    → Powers P p → Powers Q (put_slot F i a p)
+put_slot-powers F P Q i a g p h = normal-powers F Q (put_slot_raw F i a p) (put_slot_raw-powers F P Q i a g p h)
 
 -- ---- values
 
@@ -150,12 +150,12 @@ module _ (F : Ops) where
       (eval-same p xs ys n (λ i. ⊎_elim (λ z. inl (occurs-first i c e p z).1) inr (h i)))
 
 -- THEOREM: a variable for which the byte 0 gives the same value everywhere does not occur
-pub same-without : (F : Ops) → Laws F → (v k n i : ℕ) (p : Poly) → v ≤ n → i < v → Canon n p → Powers (Spare v k) p
+pub same_without : (F : Ops) → Laws F → (v k n i : ℕ) (p : Poly) → v ≤ n → i < v → Canon n p → Powers (Spare v k) p
     → ((xs : List ℕ) → ByteList v xs → eval F p (set xs i 0) ≡ eval F p xs) → occurs i p ≡ false
-same-without F L v k n i p j l h u z =
-    without-occurs i p
+same_without F L v k n i p j l h u z =
+    without_occurs i p
     (subst (Powers (Without i))
-    (terms-unique-spare F L v k n (putSlot F i 0 p) p j (canon-putSlot F L i 0 p h) h
-    (putSlot-powers F (Spare v k) (Spare v k) i 0 (λ e. set-spare v k i e l) p u) u
-    (λ xs b. eval-putSlot F L v i 0 p xs l b ∙ z xs b))
-    (putSlot-powers F (ByteList n) (Without i) i 0 (λ e b. set-without i e) p h.powers))
+    (terms_unique_spare F L v k n (put_slot F i 0 p) p j (canon-put_slot F L i 0 p h) h
+    (put_slot-powers F (Spare v k) (Spare v k) i 0 (λ e. set-spare v k i e l) p u) u
+    (λ xs b. eval-put_slot F L v i 0 p xs l b ∙ z xs b))
+    (put_slot-powers F (ByteList n) (Without i) i 0 (λ e b. set_without i e) p h.powers))

@@ -66,49 +66,49 @@ compare-turned (suc a) (suc b) =
     compare.suc-suc b a ∙ compare-turned a b ∙ ap turned (sym (compare.suc-suc a b))
 
 -- below, and below again
-compare-trans : (a b c : ℕ) → compare a b ≡ Ordering.lt → compare b c ≡ Ordering.lt → compare a c ≡ Ordering.lt
-compare-trans zero zero c h k = absurd (eq≢lt (sym compare.zero-zero ∙ h))
-compare-trans (suc a) zero c h k = absurd (gt≢lt (sym (compare.suc-zero a) ∙ h))
-compare-trans zero (suc b) zero h k = absurd (gt≢lt (sym (compare.suc-zero b) ∙ k))
-compare-trans zero (suc b) (suc c) h k = compare.zero-suc c
-compare-trans (suc a) (suc b) zero h k = absurd (gt≢lt (sym (compare.suc-zero b) ∙ k))
-compare-trans (suc a) (suc b) (suc c) h k =
-    compare.suc-suc a c ∙ compare-trans a b c (sym (compare.suc-suc a b) ∙ h) (sym (compare.suc-suc b c) ∙ k)
+compare_trans : (a b c : ℕ) → compare a b ≡ Ordering.lt → compare b c ≡ Ordering.lt → compare a c ≡ Ordering.lt
+compare_trans zero zero c h k = absurd (eq≢lt (sym compare.zero-zero ∙ h))
+compare_trans (suc a) zero c h k = absurd (gt≢lt (sym (compare.suc-zero a) ∙ h))
+compare_trans zero (suc b) zero h k = absurd (gt≢lt (sym (compare.suc-zero b) ∙ k))
+compare_trans zero (suc b) (suc c) h k = compare.zero-suc c
+compare_trans (suc a) (suc b) zero h k = absurd (gt≢lt (sym (compare.suc-zero b) ∙ k))
+compare_trans (suc a) (suc b) (suc c) h k =
+    compare.suc-suc a c ∙ compare_trans a b c (sym (compare.suc-suc a b) ∙ h) (sym (compare.suc-suc b c) ∙ k)
 
 -- ---- powers: the tail decides, and the head where the tails are one
 
 -- a second answer that is `eq` changes nothing
-pub orElse-eq : (o : Ordering) → or_else o Ordering.eq ≡ o
-orElse-eq Ordering.lt = refl
-orElse-eq Ordering.eq = refl
-orElse-eq Ordering.gt = refl
+pub or_else_eq : (o : Ordering) → or_else o Ordering.eq ≡ o
+or_else_eq Ordering.lt = refl
+or_else_eq Ordering.eq = refl
+or_else_eq Ordering.gt = refl
 
 -- what it is that comes first: the tail, or the head where the tails are the same
-lt-cases : (o r : Ordering) → or_else o r ≡ Ordering.lt → (o ≡ Ordering.lt) ⊎ ((o ≡ Ordering.eq) × (r ≡ Ordering.lt))
-lt-cases Ordering.lt r h = inl refl
-lt-cases Ordering.eq r h = inr (refl, h)
-lt-cases Ordering.gt r h = absurd (gt≢lt h)
+lt_cases : (o r : Ordering) → or_else o r ≡ Ordering.lt → (o ≡ Ordering.lt) ⊎ ((o ≡ Ordering.eq) × (r ≡ Ordering.lt))
+lt_cases Ordering.lt r h = inl refl
+lt_cases Ordering.eq r h = inr (refl, h)
+lt_cases Ordering.gt r h = absurd (gt≢lt h)
 
 -- both answers from the other side
-orElse-turned : (o r : Ordering) → or_else (turned o) (turned r) ≡ turned (or_else o r)
-orElse-turned Ordering.lt r = refl
-orElse-turned Ordering.eq r = refl
-orElse-turned Ordering.gt r = refl
+or_else-turned : (o r : Ordering) → or_else (turned o) (turned r) ≡ turned (or_else o r)
+or_else-turned Ordering.lt r = refl
+or_else-turned Ordering.eq r = refl
+or_else-turned Ordering.gt r = refl
 
 -- equal answers are equal twice
-eq-cases : (o r : Ordering) → or_else o r ≡ Ordering.eq → (o ≡ Ordering.eq) × (r ≡ Ordering.eq)
-eq-cases Ordering.lt r h = absurd (lt≢eq h)
-eq-cases Ordering.eq r h = (refl, h)
-eq-cases Ordering.gt r h = absurd (gt≢eq h)
+eq_cases : (o r : Ordering) → or_else o r ≡ Ordering.eq → (o ≡ Ordering.eq) × (r ≡ Ordering.eq)
+eq_cases Ordering.lt r h = absurd (lt≢eq h)
+eq_cases Ordering.eq r h = (refl, h)
+eq_cases Ordering.gt r h = absurd (gt≢eq h)
 
 -- the same first answer gives the same answer
-tail-decides : {o o' : Ordering} (r : Ordering) → o ≡ o' → or_else o r ≡ or_else o' r
-tail-decides r h = ap (λ (o : Ordering). or_else o r) h
+tail_decides : {o o' : Ordering} (r : Ordering) → o ≡ o' → or_else o r ≡ or_else o' r
+tail_decides r h = ap (λ (o : Ordering). or_else o r) h
 
 -- powers are the same as themselves
-pub order-self : (e : List ℕ) → order e e ≡ Ordering.eq
-order-self [] = refl
-order-self (a ∷ e) = tail-decides (compare a a) (order-self e) ∙ compare_self a
+pub order_self : (e : List ℕ) → order e e ≡ Ordering.eq
+order_self [] = refl
+order_self (a ∷ e) = tail_decides (compare a a) (order_self e) ∙ compare_self a
 
 -- powers that compare as equal are the same list
 pub order_same : (e f : List ℕ) → order e f ≡ Ordering.eq → e ≡ f
@@ -116,7 +116,7 @@ order_same [] [] h = refl
 order_same [] (b ∷ f) h = absurd (lt≢eq h)
 order_same (a ∷ e) [] h = absurd (gt≢eq h)
 order_same (a ∷ e) (b ∷ f) h =
-    let c = eq-cases (order e f) (compare a b) h in ap₂ ◌∷◌ (compare_same a b c.1) (order_same e f c.0)
+    let c = eq_cases (order e f) (compare a b) h in ap₂ ◌∷◌ (compare_same a b c.1) (order_same e f c.0)
 
 -- powers compared from the other side
 order-turned : (e f : List ℕ) → order f e ≡ turned (order e f)
@@ -124,11 +124,11 @@ order-turned [] [] = refl
 order-turned [] (b ∷ f) = refl
 order-turned (a ∷ e) [] = refl
 order-turned (a ∷ e) (b ∷ f) =
-    ap₂ or_else (order-turned e f) (compare-turned a b) ∙ orElse-turned (order e f) (compare a b)
+    ap₂ or_else (order-turned e f) (compare-turned a b) ∙ or_else-turned (order e f) (compare a b)
 
 -- powers that come behind others: the others come first
-pub order-gt : (e f : List ℕ) → order e f ≡ Ordering.gt → order f e ≡ Ordering.lt
-order-gt e f h = order-turned e f ∙ ap turned h
+pub order_gt : (e f : List ℕ) → order e f ≡ Ordering.gt → order f e ≡ Ordering.lt
+order_gt e f h = order-turned e f ∙ ap turned h
 
 -- powers that come before others: the others come behind
 pub order_lt : (e f : List ℕ) → order e f ≡ Ordering.lt → order f e ≡ Ordering.gt
@@ -142,17 +142,17 @@ order_trans [] (b ∷ f) (c ∷ g) h k = refl
 order_trans (a ∷ e) [] g h k = absurd (gt≢lt h)
 order_trans (a ∷ e) (b ∷ f) [] h k = absurd (gt≢lt k)
 order_trans (a ∷ e) (b ∷ f) (c ∷ g) h k =
-    go (order_trans e f g) (lt-cases (order e f) (compare a b) h) (lt-cases (order f g) (compare b c) k)
+    go (order_trans e f g) (lt_cases (order e f) (compare a b) h) (lt_cases (order f g) (compare b c) k)
   where
     go : (order e f ≡ Ordering.lt → order f g ≡ Ordering.lt → order e g ≡ Ordering.lt)
         → (order e f ≡ Ordering.lt) ⊎ ((order e f ≡ Ordering.eq) × (compare a b ≡ Ordering.lt))
         → (order f g ≡ Ordering.lt) ⊎ ((order f g ≡ Ordering.eq) × (compare b c ≡ Ordering.lt))
         → or_else (order e g) (compare a c) ≡ Ordering.lt
-    go ih (inl x) (inl y) = tail-decides (compare a c) (ih x y)
+    go ih (inl x) (inl y) = tail_decides (compare a c) (ih x y)
     go ih (inl x) (inr y) =
-        tail-decides (compare a c) (subst (λ (z : List ℕ). order e z ≡ Ordering.lt) (order_same f g y.0) x)
+        tail_decides (compare a c) (subst (λ (z : List ℕ). order e z ≡ Ordering.lt) (order_same f g y.0) x)
     go ih (inr x) (inl y) =
-        tail-decides (compare a c) (subst⁻¹ (λ (z : List ℕ). order z g ≡ Ordering.lt) (order_same e f x.0) y)
+        tail_decides (compare a c) (subst⁻¹ (λ (z : List ℕ). order z g ≡ Ordering.lt) (order_same e f x.0) y)
     go ih (inr x) (inr y) =
-        tail-decides (compare a c) (subst⁻¹ (λ (z : List ℕ). order z g ≡ Ordering.eq) (order_same e f x.0) y.0)
-        ∙ compare-trans a b c x.1 y.1
+        tail_decides (compare a c) (subst⁻¹ (λ (z : List ℕ). order z g ≡ Ordering.eq) (order_same e f x.0) y.0)
+        ∙ compare_trans a b c x.1 y.1

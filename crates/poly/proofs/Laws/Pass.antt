@@ -7,7 +7,7 @@ use Rattle.field.specs.Laws.{Ops, Laws}
 use Rattle.poly.specs.Poly.{term, Poly, order, keep, normal}
 use Rattle.poly.specs.Value.{only, total, coef}
 use Rattle.poly.specs.Canon.{Coefs, Above, Sorted, Byte, NonzeroByte, Raw}
-use Rattle.poly.specs.Pass.{gatherAt, gather, pass}
+use Rattle.poly.specs.Pass.{gather_at, gather, pass}
 use Rattle.poly.proofs.Laws.Order.{order_same, order_trans}
 use Rattle.poly.proofs.Laws.Normal.{keep-above, keep-sorted, keep-coefs, keep-total, only_zero, only-add}
 use Rattle.poly.proofs.Laws.Normal.{coef-normal, same-coefs, canon-normal}
@@ -28,8 +28,8 @@ module _ (F : Ops) where
   -- ---- the result is sorted
 
   -- the same powers at the start
-  rising-from : (e f : List ℕ) (q : Poly) → order e f ≡ Ordering.eq → Rising f q → Rising e q
-  rising-from e f q h r = subst (λ (y : List ℕ). Rising y q) (sym (order_same e f h)) r
+  rising_from : (e f : List ℕ) (q : Poly) → order e f ≡ Ordering.eq → Rising f q → Rising e q
+  rising_from e f q h r = subst (λ (y : List ℕ). Rising y q) (sym (order_same e f h)) r
 
   -- what comes before the powers gathered comes before the result
   gather-above : (x : List ℕ) (c : ℕ) (e : List ℕ) (q : Poly) → order x e ≡ Ordering.lt → Rising e q
@@ -40,9 +40,9 @@ module _ (F : Ops) where
     where
       go : (o : Ordering) → order e f ≡ o → (Rising e q → Above x (gather F (add c d) e q))
           → (order x f ≡ Ordering.lt → Above x (gather F d f q))
-          → Above x (gatherAt F o c e (gather F (add c d) e q) (gather F d f q))
+          → Above x (gather_at F o c e (gather F (add c d) e q) (gather F d f q))
       go Ordering.lt k i j = keep-above x c e (gather F d f q) h (j (order_trans x e f h k))
-      go Ordering.eq k i j = i (rising-from e f q k r.1)
+      go Ordering.eq k i j = i (rising_from e f q k r.1)
       go Ordering.gt k i j = absurd (r.0 k)
 
   -- the result ascends
@@ -51,9 +51,9 @@ module _ (F : Ops) where
   gather-sorted c e (term d f ∷ q) r = go (order e f) refl (gather-sorted (add c d) e q) (gather-sorted d f q r.1)
     where
       go : (o : Ordering) → order e f ≡ o → (Rising e q → Sorted (gather F (add c d) e q)) → Sorted (gather F d f q)
-          → Sorted (gatherAt F o c e (gather F (add c d) e q) (gather F d f q))
+          → Sorted (gather_at F o c e (gather F (add c d) e q) (gather F d f q))
       go Ordering.lt k i s = keep-sorted c e (gather F d f q) (gather-above e d f q k r.1) s
-      go Ordering.eq k i s = i (rising-from e f q k r.1)
+      go Ordering.eq k i s = i (rising_from e f q k r.1)
       go Ordering.gt k i s = absurd (r.0 k)
 
 module _ (F : Ops) (L : Laws F) where
@@ -67,7 +67,7 @@ module _ (F : Ops) (L : Laws F) where
       go (order e f) (gather-coefs (add c d) e q (add-byte h k.0) k.1) (gather-coefs d f q k.0 k.1)
     where
       go : (o : Ordering) → Coefs NonzeroByte (gather F (add c d) e q) → Coefs NonzeroByte (gather F d f q)
-          → Coefs NonzeroByte (gatherAt F o c e (gather F (add c d) e q) (gather F d f q))
+          → Coefs NonzeroByte (gather_at F o c e (gather F (add c d) e q) (gather F d f q))
       go Ordering.lt i s = keep-coefs c e (gather F d f q) h s
       go Ordering.eq i s = i
       go Ordering.gt i s = keep-coefs c e (gather F d f q) h s
@@ -87,7 +87,7 @@ module _ (F : Ops) (L : Laws F) where
 
         go : (o : Ordering) → order e f ≡ o → total F w (gather F (add c d) e q) ≡ add (w (add c d) e) (total F w q)
             → total F w (gather F d f q) ≡ add (w d f) (total F w q)
-            → total F w (gatherAt F o c e (gather F (add c d) e q) (gather F d f q))
+            → total F w (gather_at F o c e (gather F (add c d) e q) (gather F d f q))
             ≡ add (w c e) (add (w d f) (total F w q))
         go Ordering.lt k i s = alone s
         go Ordering.eq k i s =

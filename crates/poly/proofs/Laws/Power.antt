@@ -10,7 +10,7 @@ use borrow.Author.Tests.{lt-ltb, le-ltb}
 use Rattle.field.specs.Field.{power}
 use Rattle.field.specs.Laws.{Ops, Laws}
 use Rattle.poly.specs.Poly.{pick, reduce}
-use Rattle.field.proofs.Laws.Algebra.{pow-less}
+use Rattle.field.proofs.Laws.Algebra.{pow_less}
 
 -- a power up to 255 stays
 pub reduce-same : (e : ℕ) → e ≤ 255 → reduce e ≡ e
@@ -51,17 +51,17 @@ module _ (F : Ops) (L : Laws F) (a : ℕ) (h : a < 256) where
   open F use {mul}
 
   -- 255 taken off q times
-  pow-turns : (q r : ℕ) → power mul a (suc (r + q * 255)) ≡ power mul a (suc r)
-  pow-turns zero r =
+  pow_turns : (q r : ℕ) → power mul a (suc (r + q * 255)) ≡ power mul a (suc r)
+  pow_turns zero r =
       let s : suc (r + zero * 255) ≡ suc r = omega arith in
       ap (power mul a) s
-  pow-turns (suc q) r =
+  pow_turns (suc q) r =
       let s : suc (r + suc q * 255) ≡ 256 + (r + q * 255) = omega (arith, suc-mul q 255) in
-      ap (power mul a) s ∙ pow-less L a (r + q * 255) h ∙ pow-turns q r
+      ap (power mul a) s ∙ pow_less L a (r + q * 255) h ∙ pow_turns q r
 
   -- THEOREM: a reduced power has the same value at every byte
-  pub pow-reduce : (e : ℕ) → power mul a (reduce e) ≡ power mul a e
-  pow-reduce e = go (dec_le e 255)
+  pub pow_reduce : (e : ℕ) → power mul a (reduce e) ≡ power mul a e
+  pow_reduce e = go (dec_le e 255)
     where
       go : Dec (e ≤ 255) → power mul a (reduce e) ≡ power mul a e
       go (yes l) = ap (power mul a) (reduce-same e l)
@@ -70,5 +70,5 @@ module _ (F : Ops) (L : Laws F) (a : ℕ) (h : a < 256) where
           let d : ℕ = e - 256 in
           let s : 256 + d ≡ e = omega arith in
           let u : suc (d % 255 + d / 255 * 255) ≡ suc d = omega arith in
-          ap (power mul a) (reduce-above e k) ∙ sym (pow-turns (d / 255) (d % 255)) ∙ ap (power mul a) u
-          ∙ sym (pow-less L a d h) ∙ ap (power mul a) s
+          ap (power mul a) (reduce-above e k) ∙ sym (pow_turns (d / 255) (d % 255)) ∙ ap (power mul a) u
+          ∙ sym (pow_less L a d h) ∙ ap (power mul a) s

@@ -10,7 +10,7 @@ use Rattle.field.specs.Field.{power}
 use Rattle.field.specs.Laws.{Ops, Laws}
 use Rattle.poly.specs.Poly.{term, Poly}
 use Rattle.poly.specs.Value.{mono, eval}
-use Rattle.poly.specs.First.{putSlotRaw, putSlot}
+use Rattle.poly.specs.First.{put_slot_raw, put_slot}
 use Rattle.poly.specs.Canon.{ByteList, Canon, Raw}
 use Rattle.field.proofs.Laws.Algebra.{mul_left_comm}
 use Rattle.poly.proofs.Laws.Normal.{canon-raw, canon-normal}
@@ -29,18 +29,18 @@ module _ (F : Ops) (L : Laws F) where
   open L.ring use {mul-byte, mul_assoc, one-mul}
 
   -- the terms with the byte put in hold bytes
-  pub putSlot-raw : {n : ℕ} (i a : ℕ) (p : Poly) → Raw n p → Raw n (putSlotRaw F i a p)
-  putSlot-raw i a [] h = record { coefs = tt; powers = tt }
-  putSlot-raw {n} i a (term c e ∷ p) h =
-      let r : Raw n (putSlotRaw F i a p) = putSlot-raw i a p (record { coefs = h.coefs.1; powers = h.powers.1 }) in
+  pub put_slot_raw_lem : {n : ℕ} (i a : ℕ) (p : Poly) → Raw n p → Raw n (put_slot_raw F i a p)
+  put_slot_raw_lem i a [] h = record { coefs = tt; powers = tt }
+  put_slot_raw_lem {n} i a (term c e ∷ p) h =
+      let r : Raw n (put_slot_raw F i a p) = put_slot_raw_lem i a p (record { coefs = h.coefs.1; powers = h.powers.1 }) in
       record {
         coefs = (mul-byte c (power mul a (get_or e i 0)), r.coefs);
         powers = (set-bytes n i 0 e zero-le h.powers.0, r.powers);
       }
 
   -- THEOREM: a byte put in for a variable gives a reduced polynomial
-  pub canon-putSlot : {n : ℕ} (i a : ℕ) (p : Poly) → Canon n p → Canon n (putSlot F i a p)
-  canon-putSlot i a p h = canon-normal F L (putSlotRaw F i a p) (putSlot-raw i a p (canon-raw h))
+  pub canon-put_slot : {n : ℕ} (i a : ℕ) (p : Poly) → Canon n p → Canon n (put_slot F i a p)
+  canon-put_slot i a p h = canon-normal F L (put_slot_raw F i a p) (put_slot_raw_lem i a p (canon-raw h))
 
   -- ---- values: v variables in use, terms of any number of powers
 
@@ -56,14 +56,14 @@ module _ (F : Ops) (L : Laws F) where
       ∙ ap (mul (power mul x k)) (mono-set v i a e xs (le_of_suc-le-suc l) h.1)
 
   -- the same for a list of terms
-  eval-putSlotRaw : (v i a : ℕ) (p : Poly) (xs : List ℕ) → i < v → ByteList v xs
-      → eval F (putSlotRaw F i a p) xs ≡ eval F p (set xs i a)
-  eval-putSlotRaw v i a [] xs l h = refl
-  eval-putSlotRaw v i a (term c e ∷ p) xs l h =
+  eval-put_slot_raw : (v i a : ℕ) (p : Poly) (xs : List ℕ) → i < v → ByteList v xs
+      → eval F (put_slot_raw F i a p) xs ≡ eval F p (set xs i a)
+  eval-put_slot_raw v i a [] xs l h = refl
+  eval-put_slot_raw v i a (term c e ∷ p) xs l h =
       ap₂ add (mul_assoc c (power mul a (get_or e i 0)) (mono F (set e i 0) xs) ∙ ap (mul c) (mono-set v i a e xs l h))
-      (eval-putSlotRaw v i a p xs l h)
+      (eval-put_slot_raw v i a p xs l h)
 
   -- THEOREM: the value with a byte put in for variable i is the value with that byte in place i
-  pub eval-putSlot : (v i a : ℕ) (p : Poly) (xs : List ℕ) → i < v → ByteList v xs
-      → eval F (putSlot F i a p) xs ≡ eval F p (set xs i a)
-  eval-putSlot v i a p xs l h = eval-normal F L (putSlotRaw F i a p) xs ∙ eval-putSlotRaw v i a p xs l h
+  pub eval-put_slot : (v i a : ℕ) (p : Poly) (xs : List ℕ) → i < v → ByteList v xs
+      → eval F (put_slot F i a p) xs ≡ eval F p (set xs i a)
+  eval-put_slot v i a p xs l h = eval-normal F L (put_slot_raw F i a p) xs ∙ eval-put_slot_raw v i a p xs l h

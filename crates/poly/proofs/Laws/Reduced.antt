@@ -7,24 +7,24 @@ use native.Mathlib.Omega.{arith}
 use lib.ListN.{replicate}
 use Rattle.field.specs.Field.{power}
 use Rattle.field.specs.Laws.{Ops, Laws}
-use Rattle.poly.specs.Poly.{term, Poly, addPows, constant, unit, variable, addPoly, scale, mulRaw}
-use Rattle.poly.specs.Poly.{mulPoly, square, linearRaw, mapPoly}
-use Rattle.poly.specs.First.{putRaw, put}
+use Rattle.poly.specs.Poly.{term, Poly, add_pows, constant, unit, variable, add_poly, scale, mul_raw}
+use Rattle.poly.specs.Poly.{mul_poly, square, linear_raw, map_poly}
+use Rattle.poly.specs.First.{put_raw, put}
 use Rattle.poly.specs.Canon.{Within, ByteList, Spare, Powers, Coefs, Byte, Canon}
 use Rattle.poly.proofs.Laws.Power.{reduce-byte}
-use Rattle.poly.proofs.Laws.Normal.{powers-append, powers-map, coefs-append, canon-raw, canon-normal}
+use Rattle.poly.proofs.Laws.Normal.{powers_append, powers-map, coefs_append, canon-raw, canon-normal}
 use Rattle.poly.proofs.Laws.Normal.{normal-powers}
 
 -- ---- powers stay bytes
 
 -- the powers of a product are bytes
-pub addPows-bytes : (n : ℕ) (e f : List ℕ) → ByteList n e → ByteList n f → ByteList n (addPows e f)
-addPows-bytes zero [] f h k = k
-addPows-bytes zero (a ∷ e) f h k = absurd h
-addPows-bytes (suc n) [] f h k = absurd h
-addPows-bytes (suc n) (a ∷ e) [] h k = absurd k
-addPows-bytes (suc n) (a ∷ e) (b ∷ f) h k =
-    (reduce-byte (a + b), addPows-bytes n e f h.1 k.1)
+pub add_pows-bytes : (n : ℕ) (e f : List ℕ) → ByteList n e → ByteList n f → ByteList n (add_pows e f)
+add_pows-bytes zero [] f h k = k
+add_pows-bytes zero (a ∷ e) f h k = absurd h
+add_pows-bytes (suc n) [] f h k = absurd h
+add_pows-bytes (suc n) (a ∷ e) [] h k = absurd k
+add_pows-bytes (suc n) (a ∷ e) (b ∷ f) h k =
+    (reduce-byte (a + b), add_pows-bytes n e f h.1 k.1)
 
 -- zeros are bytes
 pub zeros-bytes : (n : ℕ) → ByteList n (replicate n 0)
@@ -32,7 +32,7 @@ zeros-bytes zero = tt
 zeros-bytes (suc n) = (zero-le, zeros-bytes n)
 
 -- zeros and zeros are zeros
-zeros-add : (k : ℕ) → addPows (replicate k 0) (replicate k 0) ≡ replicate k 0
+zeros-add : (k : ℕ) → add_pows (replicate k 0) (replicate k 0) ≡ replicate k 0
 zeros-add zero = refl
 zeros-add (suc k) = ap {B = List ℕ} (λ e. 0 ∷ e) (zeros-add k)
 
@@ -47,11 +47,11 @@ constant-coefs n zero h = tt
 constant-coefs n (suc c) h = (h, tt)
 
 -- variables that are not in use in two terms are not in use in their product
-pub addPows-spare : (v k : ℕ) (e f : List ℕ) → Spare v k e → Spare v k f → Spare v k (addPows e f)
-addPows-spare zero k e f h d = subst₂ (λ (x y : List ℕ). addPows x y ≡ replicate k 0) (sym h) (sym d) (zeros-add k)
-addPows-spare (suc v) k [] f h d = absurd h
-addPows-spare (suc v) k (a ∷ e) [] h d = absurd d
-addPows-spare (suc v) k (a ∷ e) (b ∷ f) h d = addPows-spare v k e f h d
+pub add_pows-spare : (v k : ℕ) (e f : List ℕ) → Spare v k e → Spare v k f → Spare v k (add_pows e f)
+add_pows-spare zero k e f h d = subst₂ (λ (x y : List ℕ). add_pows x y ≡ replicate k 0) (sym h) (sym d) (zeros-add k)
+add_pows-spare (suc v) k [] f h d = absurd h
+add_pows-spare (suc v) k (a ∷ e) [] h d = absurd d
+add_pows-spare (suc v) k (a ∷ e) (b ∷ f) h d = add_pows-spare v k e f h d
 
 -- a constant uses no variable
 pub zeros-spare : (v k n : ℕ) → n ≡ v + k → Spare v k (replicate n 0)
@@ -99,11 +99,11 @@ canon-variable n i =
 
 -- the powers of a product have P where those of both factors have it
 abbrev pub Closed : (List ℕ → Type 0) → Type 0
-Closed P = (e f : List ℕ) → P e → P f → P (addPows e f)
+Closed P = (e f : List ℕ) → P e → P f → P (add_pows e f)
 
 -- powers that may be added to those of any term
 abbrev pub Shifts : (List ℕ → Type 0) → List ℕ → Type 0
-Shifts P e = (f : List ℕ) → P f → P (addPows e f)
+Shifts P e = (f : List ℕ) → P f → P (add_pows e f)
 
 module _ (F : Ops) (P : List ℕ → Type 0) where
   -- a property of powers is kept by the product with a term
@@ -112,8 +112,8 @@ module _ (F : Ops) (P : List ℕ → Type 0) where
   scale-powers c e g (term d f ∷ q) h = (g f h.0, scale-powers c e g q h.1)
 
   -- a property of powers is kept by the sum
-  pub add-powers : (p q : Poly) → Powers P p → Powers P q → Powers P (addPoly F p q)
-  add-powers p q h k = normal-powers F P (p ++ q) (powers-append P p q h k)
+  pub add-powers : (p q : Poly) → Powers P p → Powers P q → Powers P (add_poly F p q)
+  add-powers p q h k = normal-powers F P (p ++ q) (powers_append P p q h k)
 
   module _ (closed : Closed P) where
     -- a property of powers is kept by the square
@@ -122,42 +122,42 @@ module _ (F : Ops) (P : List ℕ → Type 0) where
     square-powers (term c e ∷ p) h = (closed e e h.0 h.0, square-powers p h.1)
 
     -- a property of powers is kept by the products of all terms
-    mulRaw-powers : (p q : Poly) → Powers P p → Powers P q → Powers P (mulRaw F p q)
-    mulRaw-powers [] q h k = tt
-    mulRaw-powers (term c e ∷ p) q h k =
-        powers-append P (scale F c e q) (mulRaw F p q) (scale-powers c e (λ f. closed e f h.0) q k)
-        (mulRaw-powers p q h.1 k)
+    mul_raw-powers : (p q : Poly) → Powers P p → Powers P q → Powers P (mul_raw F p q)
+    mul_raw-powers [] q h k = tt
+    mul_raw-powers (term c e ∷ p) q h k =
+        powers_append P (scale F c e q) (mul_raw F p q) (scale-powers c e (λ f. closed e f h.0) q k)
+        (mul_raw-powers p q h.1 k)
 
     -- a property of powers is kept by the terms of a map
-    linearRaw-powers : (ls : List ℕ) (p : Poly) → Powers P p → Powers P (linearRaw F ls p)
-    linearRaw-powers [] p h = tt
-    linearRaw-powers (l ∷ ls) p h =
-        powers-append P (scale F l [] p) (linearRaw F ls (square F p))
-        (scale-powers l [] (λ f k. k) p h) (linearRaw-powers ls (square F p) (square-powers p h))
+    linear_raw-powers : (ls : List ℕ) (p : Poly) → Powers P p → Powers P (linear_raw F ls p)
+    linear_raw-powers [] p h = tt
+    linear_raw-powers (l ∷ ls) p h =
+        powers_append P (scale F l [] p) (linear_raw F ls (square F p))
+        (scale-powers l [] (λ f k. k) p h) (linear_raw-powers ls (square F p) (square-powers p h))
 
     -- a property of powers is kept by the product
-    pub mul-powers : (p q : Poly) → Powers P p → Powers P q → Powers P (mulPoly F p q)
-    mul-powers p q h k = normal-powers F P (mulRaw F p q) (mulRaw-powers p q h k)
+    pub mul-powers : (p q : Poly) → Powers P p → Powers P q → Powers P (mul_poly F p q)
+    mul-powers p q h k = normal-powers F P (mul_raw F p q) (mul_raw-powers p q h k)
 
     -- a property of powers is kept by the application of a map
     pub map-powers : (n c : ℕ) (ls : List ℕ) (p : Poly) → Powers P (constant n c) → Powers P p
-        → Powers P (mapPoly F n c ls p)
+        → Powers P (map_poly F n c ls p)
     map-powers n c ls p z h =
-        normal-powers F P (constant n c ++ linearRaw F ls p)
-        (powers-append P (constant n c) (linearRaw F ls p) z (linearRaw-powers ls p h))
+        normal-powers F P (constant n c ++ linear_raw F ls p)
+        (powers_append P (constant n c) (linear_raw F ls p) z (linear_raw-powers ls p h))
 
 module _ (F : Ops) where
   -- putting in a byte drops the first power
   module _ (P Q : List ℕ → Type 0) (none : P [] → Q []) (less : (k : ℕ) (e : List ℕ) → P (k ∷ e) → Q e) where
     -- a property of powers becomes another when the first power goes
-    pub putRaw-powers : (a : ℕ) (p : Poly) → Powers P p → Powers Q (putRaw F a p)
-    putRaw-powers a [] h = tt
-    putRaw-powers a (term c [] ∷ p) h = (none h.0, putRaw-powers a p h.1)
-    putRaw-powers a (term c (k ∷ e) ∷ p) h = (less k e h.0, putRaw-powers a p h.1)
+    pub put_raw-powers : (a : ℕ) (p : Poly) → Powers P p → Powers Q (put_raw F a p)
+    put_raw-powers a [] h = tt
+    put_raw-powers a (term c [] ∷ p) h = (none h.0, put_raw-powers a p h.1)
+    put_raw-powers a (term c (k ∷ e) ∷ p) h = (less k e h.0, put_raw-powers a p h.1)
 
     -- the same for the normal form
     pub put-powers : (a : ℕ) (p : Poly) → Powers P p → Powers Q (put F a p)
-    put-powers a p h = normal-powers F Q (putRaw F a p) (putRaw-powers a p h)
+    put-powers a p h = normal-powers F Q (put_raw F a p) (put_raw-powers a p h)
 
   -- the powers stay within their bounds
   pub put-within : (d : ℕ) (ds : List ℕ) (a : ℕ) (p : Poly) → Powers (Within (d ∷ ds)) p
@@ -178,59 +178,59 @@ module _ (F : Ops) (L : Laws F) where
   scale-coefs c e (term d f ∷ q) = (mul-byte c d, scale-coefs c e q)
 
   -- the coefficients of the products of all terms are bytes
-  mulRaw-coefs : (p q : Poly) → Coefs Byte (mulRaw F p q)
-  mulRaw-coefs [] q = tt
-  mulRaw-coefs (term c e ∷ p) q =
-      coefs-append Byte (scale F c e q) (mulRaw F p q) (scale-coefs c e q) (mulRaw-coefs p q)
+  mul_raw-coefs : (p q : Poly) → Coefs Byte (mul_raw F p q)
+  mul_raw-coefs [] q = tt
+  mul_raw-coefs (term c e ∷ p) q =
+      coefs_append Byte (scale F c e q) (mul_raw F p q) (scale-coefs c e q) (mul_raw-coefs p q)
 
   -- the coefficients of the terms of a map are bytes
-  linearRaw-coefs : (ls : List ℕ) (p : Poly) → Coefs Byte (linearRaw F ls p)
-  linearRaw-coefs [] p = tt
-  linearRaw-coefs (l ∷ ls) p =
-      coefs-append Byte (scale F l [] p) (linearRaw F ls (square F p)) (scale-coefs l [] p)
-      (linearRaw-coefs ls (square F p))
+  linear_raw-coefs : (ls : List ℕ) (p : Poly) → Coefs Byte (linear_raw F ls p)
+  linear_raw-coefs [] p = tt
+  linear_raw-coefs (l ∷ ls) p =
+      coefs_append Byte (scale F l [] p) (linear_raw F ls (square F p)) (scale-coefs l [] p)
+      (linear_raw-coefs ls (square F p))
 
   -- the coefficients with a byte put in are bytes
-  pub putRaw-coefs : (a : ℕ) (p : Poly) → Coefs Byte p → Coefs Byte (putRaw F a p)
-  putRaw-coefs a [] h = tt
-  putRaw-coefs a (term c [] ∷ p) h = (h.0, putRaw-coefs a p h.1)
-  putRaw-coefs a (term c (k ∷ e) ∷ p) h = (mul-byte c (power mul a k), putRaw-coefs a p h.1)
+  pub put_raw-coefs : (a : ℕ) (p : Poly) → Coefs Byte p → Coefs Byte (put_raw F a p)
+  put_raw-coefs a [] h = tt
+  put_raw-coefs a (term c [] ∷ p) h = (h.0, put_raw-coefs a p h.1)
+  put_raw-coefs a (term c (k ∷ e) ∷ p) h = (mul-byte c (power mul a k), put_raw-coefs a p h.1)
 
   -- ---- THEOREMS
 
   -- the sum
-  pub canon-add : {n : ℕ} (p q : Poly) → Canon n p → Canon n q → Canon n (addPoly F p q)
+  pub canon-add : {n : ℕ} (p q : Poly) → Canon n p → Canon n q → Canon n (add_poly F p q)
   canon-add {n} p q h k =
       let r = canon-raw h in
       let s = canon-raw k in
       canon-normal F L (p ++ q) (record {
-        coefs = coefs-append Byte p q r.coefs s.coefs;
-        powers = powers-append (ByteList n) p q h.powers k.powers;
+        coefs = coefs_append Byte p q r.coefs s.coefs;
+        powers = powers_append (ByteList n) p q h.powers k.powers;
       })
 
   -- the product
-  pub canon-mul : {n : ℕ} (p q : Poly) → Canon n p → Canon n q → Canon n (mulPoly F p q)
+  pub canon-mul : {n : ℕ} (p q : Poly) → Canon n p → Canon n q → Canon n (mul_poly F p q)
   canon-mul {n} p q h k =
-      canon-normal F L (mulRaw F p q) (record {
-        coefs = mulRaw-coefs p q;
+      canon-normal F L (mul_raw F p q) (record {
+        coefs = mul_raw-coefs p q;
         powers =
-            mulRaw-powers F (ByteList n) (addPows-bytes n) p q h.powers k.powers;
+            mul_raw-powers F (ByteList n) (add_pows-bytes n) p q h.powers k.powers;
       })
 
   -- the application of a map
-  pub canon-map : {n : ℕ} (c : ℕ) (ls : List ℕ) (p : Poly) → c < 256 → Canon n p → Canon n (mapPoly F n c ls p)
+  pub canon-map : {n : ℕ} (c : ℕ) (ls : List ℕ) (p : Poly) → c < 256 → Canon n p → Canon n (map_poly F n c ls p)
   canon-map {n} c ls p k h =
-      canon-normal F L (constant n c ++ linearRaw F ls p) (record {
-        coefs = coefs-append Byte (constant n c) (linearRaw F ls p) (constant-coefs n c k) (linearRaw-coefs ls p);
-        powers = powers-append (ByteList n) (constant n c) (linearRaw F ls p) (constant-powers n c)
-            (linearRaw-powers F (ByteList n) (addPows-bytes n) ls p h.powers);
+      canon-normal F L (constant n c ++ linear_raw F ls p) (record {
+        coefs = coefs_append Byte (constant n c) (linear_raw F ls p) (constant-coefs n c k) (linear_raw-coefs ls p);
+        powers = powers_append (ByteList n) (constant n c) (linear_raw F ls p) (constant-powers n c)
+            (linear_raw-powers F (ByteList n) (add_pows-bytes n) ls p h.powers);
       })
 
   -- a byte put in for the first variable
   pub canon-put : {n : ℕ} (a : ℕ) (p : Poly) → Canon (suc n) p → Canon n (put F a p)
   canon-put {n} a p h =
       let r = canon-raw h in
-      canon-normal F L (putRaw F a p) (record {
-        coefs = putRaw-coefs a p r.coefs;
-        powers = putRaw-powers F (ByteList (suc n)) (ByteList n) (λ h. absurd h) (λ k e h. h.1) a p h.powers;
+      canon-normal F L (put_raw F a p) (record {
+        coefs = put_raw-coefs a p r.coefs;
+        powers = put_raw-powers F (ByteList (suc n)) (ByteList n) (λ h. absurd h) (λ k e h. h.1) a p h.powers;
       })

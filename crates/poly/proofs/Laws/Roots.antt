@@ -8,7 +8,7 @@ use native.Mathlib.Omega.{arith}
 use native.Mathlib.Nat.{le_of_suc-le-suc, zero-lt-suc}
 use lib.ListN.{length}
 use Rattle.field.specs.Laws.{Ops, Laws}
-use Rattle.field.proofs.Laws.Algebra.{zero-add, add-swap, add_same, add_twice, mul-zero, mul_left_comm}
+use Rattle.field.proofs.Laws.Algebra.{zero-add, add_swap, add_same, add_twice, mul-zero, mul_left_comm}
 use Rattle.field.proofs.Laws.Algebra.{distrib-right}
 
 -- each number of a list has P
@@ -35,9 +35,9 @@ each_map f [] h = tt
 each_map f (a ∷ l) h = (f a h.0, each_map f l h.1)
 
 -- two facts of each number together
-pub each-zip : {P Q R : ℕ → Type 0} → ((a : ℕ) → P a → Q a → R a) → (l : List ℕ) → Each P l → Each Q l → Each R l
-each-zip f [] h k = tt
-each-zip f (a ∷ l) h k = (f a h.0 k.0, each-zip f l h.1 k.1)
+pub each_zip : {P Q R : ℕ → Type 0} → ((a : ℕ) → P a → Q a → R a) → (l : List ℕ) → Each P l → Each Q l → Each R l
+each_zip f [] h k = tt
+each_zip f (a ∷ l) h k = (f a h.0 k.0, each_zip f l h.1 k.1)
 
 module _ (F : Ops) where
   open F use {add, mul}
@@ -59,7 +59,7 @@ module _ (F : Ops) where
 
 module _ (F : Ops) (L : Laws F) where
   open F use {add, mul}
-  open L.ring use {add-byte, add_comm, add_assoc, add-zero, add-self, mul-byte, mul_comm, mul_assoc, distrib}
+  open L.ring use {add-byte, add_comm, add_assoc, add-zero, add_self, mul-byte, mul_comm, mul_assoc, distrib}
 
   -- the value is a byte
   horner-byte : (cs : List ℕ) (x : ℕ) → AllBytes cs → horner F cs x < 256
@@ -78,7 +78,7 @@ module _ (F : Ops) (L : Laws F) where
 
   -- where c + x·u is v at x and c + r·w is z at r, the difference of the two is that of x·u and r·w
   differ : (c a b : ℕ) → add (add c a) (add c b) ≡ add a b
-  differ c a b = add-swap L.ring c a c b ∙ ap (λ (x : ℕ). add x (add a b)) (add-self c)
+  differ c a b = add_swap L.ring c a c b ∙ ap (λ (x : ℕ). add x (add a b)) (add_self c)
       ∙ zero-add L.ring (add a b)
 
   -- x·v + r·z is (x + r)·z + x·(v + z)
@@ -112,9 +112,9 @@ module _ (F : Ops) (L : Laws F) where
       (sym (add-zero c) ∙ ap (add c) (sym (ap (mul r) (horner-zero cs r t) ∙ mul-zero L.ring r)) ∙ h.0, t)
 
   -- another root is a root of the quotient
-  root-left : (r c : ℕ) (cs : List ℕ) → r < 256 → AllBytes cs → horner F (c ∷ cs) r ≡ 0
+  root_left : (r c : ℕ) (cs : List ℕ) → r < 256 → AllBytes cs → horner F (c ∷ cs) r ≡ 0
       → (s : ℕ) → (s < 256) × (r ≢ s) → horner F (c ∷ cs) s ≡ 0 → horner F (divide F r cs) s ≡ 0
-  root-left r c cs hr hc zr s hs zs =
+  root_left r c cs hr hc zr s hs zs =
       L.no_zero (add s r) (horner F (divide F r cs) s) (add-byte hs.0 hr)
       (horner-byte (divide F r cs) s (divide-bytes r cs hc))
       (λ e. hs.1 (sym (add_same L.ring s r e)))
@@ -130,6 +130,6 @@ module _ (F : Ops) (L : Laws F) where
   roots (r ∷ rs) (c ∷ cs) hr d hc l z =
       let q = roots rs (divide F r cs) hr.1 d.1 (divide-bytes r cs hc.1)
       (subst (λ (k : ℕ). k ≤ length rs) (sym (length-divide F r cs)) (le_of_suc-le-suc l))
-      (each-zip (root-left r c cs hr.0 hc.1 z.0) rs (each-zip (λ s h k. (h, k)) rs hr.1 d.0) z.1) in
+      (each_zip (root_left r c cs hr.0 hc.1 z.0) rs (each_zip (λ s h k. (h, k)) rs hr.1 d.0) z.1) in
       let t = divide-zero r cs q in
       (sym (add-zero c) ∙ ap (add c) (sym (ap (mul r) (horner-zero cs r t) ∙ mul-zero L.ring r)) ∙ z.0, t)

@@ -12,10 +12,10 @@ use Rattle.field.specs.Field.{power}
 use Rattle.field.specs.Laws.{Ops, Laws}
 use Rattle.poly.specs.Poly.{term, Poly, or_else, order}
 use Rattle.poly.specs.Value.{only, coef}
-use Rattle.poly.specs.First.{putRaw, put}
+use Rattle.poly.specs.First.{put_raw, put}
 use Rattle.poly.specs.Canon.{Within, Powers, Coefs, Byte, Canon, Some}
-use Rattle.field.proofs.Laws.Algebra.{zero-add, add-swap, mul-zero, mul-one, mul_left_comm}
-use Rattle.poly.proofs.Laws.Normal.{coef-normal, coef-head, canon-raw}
+use Rattle.field.proofs.Laws.Algebra.{zero-add, add_swap, mul-zero, mul-one, mul_left_comm}
+use Rattle.poly.proofs.Laws.Normal.{coef-normal, coef_head, canon-raw}
 use Rattle.poly.proofs.Laws.Roots.{Each, AllZero, AllBytes, Different, horner, roots, each_map}
 
 -- the first d values of f
@@ -75,7 +75,7 @@ module _ (F : Ops) (L : Laws F) where
       ap (λ (y : ℕ). add (add (f 0) (g 0)) (mul x y)) (horner-add d (λ k. f (suc k)) (λ k. g (suc k)) x)
       ∙ ap (add (add (f 0) (g 0))) (distrib x (horner F (dense d (λ k. f (suc k))) x)
       (horner F (dense d (λ k. g (suc k))) x))
-      ∙ add-swap L.ring (f 0) (g 0) (mul x (horner F (dense d (λ k. f (suc k))) x))
+      ∙ add_swap L.ring (f 0) (g 0) (mul x (horner F (dense d (λ k. f (suc k))) x))
       (mul x (horner F (dense d (λ k. g (suc k))) x))
 
   -- one coefficient, at k
@@ -107,7 +107,7 @@ module _ (F : Ops) (L : Laws F) where
 
   -- the coefficient of the other powers e, when a is put in, is the row of e at a
   row : (d : ℕ) (ds : List ℕ) (a : ℕ) (e : List ℕ) (p : Poly) → Powers (Within (d ∷ ds)) p → Coefs Byte p
-      → coef F (putRaw F a p) e ≡ horner F (dense (suc d) (λ k. coef F p (k ∷ e))) a
+      → coef F (put_raw F a p) e ≡ horner F (dense (suc d) (λ k. coef F p (k ∷ e))) a
   row d ds a e [] h l = sym (horner-none (suc d) a)
   row d ds a e (term c [] ∷ p) h l = absurd h.0
   row d ds a e (term c (k ∷ f) ∷ p) h l =
@@ -129,8 +129,8 @@ module _ (F : Ops) (L : Laws F) where
       let all : AllZero (dense (suc d) f) = roots F L rs (dense (suc d) f) hb hd
       (dense-bytes (suc d) f (λ j. coef-byte q (j ∷ e) y))
       (subst (λ (m : ℕ). m ≤ length rs) (sym (length-dense (suc d) f)) l)
-      (each_map (λ r g. sym (row d ds r e q w y) ∙ sym (coef-normal F L (putRaw F r q) e)
+      (each_map (λ r g. sym (row d ds r e q w y) ∙ sym (coef-normal F L (put_raw F r q) e)
       ∙ ap (λ (t : Poly). coef F t e) g) rs z) in
-      let none : c ≡ 0 = sym (coef-head F L c (k ∷ e) p h.sorted.0 h.sorted.1)
+      let none : c ≡ 0 = sym (coef_head F L c (k ∷ e) p h.sorted.0 h.sorted.1)
       ∙ dense-zero (suc d) f all k (omega (arith, w.0.0)) in
       omega (arith, h.coefs.0.0)

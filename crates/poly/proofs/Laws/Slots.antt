@@ -8,9 +8,9 @@ use lib.ListN.{get_or, set}
 use Rattle.field.specs.Field.{power}
 use Rattle.field.specs.Laws.{Ops}
 use Rattle.poly.specs.Poly.{term, Poly, or_else, order, keep, place, insert, normal}
-use Rattle.poly.specs.First.{putRaw, put, putSlotRaw, putSlot}
+use Rattle.poly.specs.First.{put_raw, put, put_slot_raw, put_slot}
 use Rattle.poly.specs.Canon.{ByteList, Powers}
-use Rattle.poly.proofs.Laws.Order.{orElse-eq}
+use Rattle.poly.proofs.Laws.Order.{or_else_eq}
 
 -- j zeros in front of powers
 abbrev pub zeros : ℕ → List ℕ → List ℕ
@@ -33,10 +33,10 @@ Nonempty [] = ⊥
 Nonempty (k ∷ e) = Unit {0}
 
 -- n + 1 powers are at least one
-pub bytes-nonempty : (n : ℕ) (p : Poly) → Powers (ByteList (suc n)) p → Powers Nonempty p
-bytes-nonempty n [] h = tt
-bytes-nonempty n (term c [] ∷ p) h = absurd h.0
-bytes-nonempty n (term c (k ∷ e) ∷ p) h = (tt, bytes-nonempty n p h.1)
+pub bytes_nonempty : (n : ℕ) (p : Poly) → Powers (ByteList (suc n)) p → Powers Nonempty p
+bytes_nonempty n [] h = tt
+bytes_nonempty n (term c [] ∷ p) h = absurd h.0
+bytes_nonempty n (term c (k ∷ e) ∷ p) h = (tt, bytes_nonempty n p h.1)
 
 -- ---- the order, and so the normal form, does not see them
 
@@ -44,7 +44,7 @@ bytes-nonempty n (term c (k ∷ e) ∷ p) h = (tt, bytes-nonempty n p h.1)
 pub order-zeros : (j : ℕ) (e f : List ℕ) → order (zeros j e) (zeros j f) ≡ order e f
 order-zeros zero e f = refl
 order-zeros (suc j) e f =
-    ap (or_else (order (zeros j e) (zeros j f))) compare.zero-zero ∙ orElse-eq (order (zeros j e) (zeros j f))
+    ap (or_else (order (zeros j e) (zeros j f))) compare.zero-zero ∙ or_else_eq (order (zeros j e) (zeros j f))
     ∙ order-zeros j e f
 
 -- nor does a term in front
@@ -78,9 +78,9 @@ module _ (F : Ops) where
   -- ---- a byte put in
 
   -- the power behind j zeros
-  getD-zeros : (j k : ℕ) (e : List ℕ) → get_or (zeros j (k ∷ e)) j 0 ≡ k
-  getD-zeros zero k e = refl
-  getD-zeros (suc j) k e = getD-zeros j k e
+  get_d_zeros : (j k : ℕ) (e : List ℕ) → get_or (zeros j (k ∷ e)) j 0 ≡ k
+  get_d_zeros zero k e = refl
+  get_d_zeros (suc j) k e = get_d_zeros j k e
 
   -- the power behind j zeros made zero
   set-zeros : (j k : ℕ) (e : List ℕ) → set (zeros j (k ∷ e)) j 0 ≡ zeros (suc j) e
@@ -88,14 +88,14 @@ module _ (F : Ops) where
   set-zeros (suc j) k e = ap {B = List ℕ} (λ f. 0 ∷ f) (set-zeros j k e)
 
   -- a byte put in for variable j, behind j zeros, before the result is made normal
-  putSlotRaw-lead : (j a : ℕ) (p : Poly) → Powers Nonempty p → putSlotRaw F j a (lead j p) ≡ lead (suc j) (putRaw F a p)
-  putSlotRaw-lead j a [] h = refl
-  putSlotRaw-lead j a (term c [] ∷ p) h = absurd h.0
-  putSlotRaw-lead j a (term c (k ∷ e) ∷ p) h =
-      ap₂ {C = Poly} ◌∷◌ (ap₂ (λ (x : ℕ) (f : List ℕ). term (mul c (power mul a x)) f) (getD-zeros j k e)
+  put_slot_raw-lead : (j a : ℕ) (p : Poly) → Powers Nonempty p → put_slot_raw F j a (lead j p) ≡ lead (suc j) (put_raw F a p)
+  put_slot_raw-lead j a [] h = refl
+  put_slot_raw-lead j a (term c [] ∷ p) h = absurd h.0
+  put_slot_raw-lead j a (term c (k ∷ e) ∷ p) h =
+      ap₂ {C = Poly} ◌∷◌ (ap₂ (λ (x : ℕ) (f : List ℕ). term (mul c (power mul a x)) f) (get_d_zeros j k e)
       (set-zeros j k e))
-      (putSlotRaw-lead j a p h.1)
+      (put_slot_raw-lead j a p h.1)
 
   -- THEOREM: to put a byte in for variable j, after those before it, is to put it in for the first that is left
-  pub putSlot-lead : (j a : ℕ) (p : Poly) → Powers Nonempty p → putSlot F j a (lead j p) ≡ lead (suc j) (put F a p)
-  putSlot-lead j a p h = ap (normal F) (putSlotRaw-lead j a p h) ∙ normal-lead (suc j) (putRaw F a p)
+  pub put_slot-lead : (j a : ℕ) (p : Poly) → Powers Nonempty p → put_slot F j a (lead j p) ≡ lead (suc j) (put F a p)
+  put_slot-lead j a p h = ap (normal F) (put_slot_raw-lead j a p h) ∙ normal-lead (suc j) (put_raw F a p)

@@ -6,19 +6,19 @@ use Prim.Native.Nat.{ℕ, ◌+◌, ◌≤◌}
 use native.Mathlib.Omega.{arith}
 use lib.ListN.{length}
 use Rattle.field.specs.Laws.{Ops, Laws}
-use Rattle.poly.specs.Poly.{term, Poly, order, insert, into, normal, addPoly}
+use Rattle.poly.specs.Poly.{term, Poly, order, insert, into, normal, add_poly}
 use Rattle.poly.specs.Value.{only, coef}
 use Rattle.poly.specs.Canon.{ByteList, Byte, Canon, Raw, Sorted}
 use Rattle.poly.proofs.Laws.Normal.{insert-sorted}
 use Rattle.poly.proofs.Laws.Size.{insert-length, one-most}
-use Rattle.poly.proofs.Laws.Normal.{powers-append, coefs-append, total-append, coef-normal, same-normal}
+use Rattle.poly.proofs.Laws.Normal.{powers_append, coefs_append, total_append, coef-normal, same-normal}
 use Rattle.poly.proofs.Laws.Normal.{canon-normal, canon-raw, normal-canon}
 
 -- two lists of terms of bytes joined
-pub raw-append : {n : ℕ} (p q : Poly) → Raw n p → Raw n q → Raw n (p ++ q)
-raw-append {n} p q h k = record {
-  coefs = coefs-append Byte p q h.coefs k.coefs;
-  powers = powers-append (ByteList n) p q h.powers k.powers;
+pub raw_append : {n : ℕ} (p q : Poly) → Raw n p → Raw n q → Raw n (p ++ q)
+raw_append {n} p q h k = record {
+  coefs = coefs_append Byte p q h.coefs k.coefs;
+  powers = powers_append (ByteList n) p q h.powers k.powers;
 }
 
 module _ (F : Ops) (L : Laws F) where
@@ -30,43 +30,43 @@ module _ (F : Ops) (L : Laws F) where
   raw-normal p h = canon-raw (canon-normal F L p h)
 
   -- the coefficients of two lists joined are added
-  pub coef-append : (p q : Poly) (x : List ℕ) → coef F (p ++ q) x ≡ add (coef F p x) (coef F q x)
-  coef-append p q x = total-append F L (λ d f. only (order f x) d) p q
+  pub coef_append : (p q : Poly) (x : List ℕ) → coef F (p ++ q) x ≡ add (coef F p x) (coef F q x)
+  coef_append p q x = total_append F L (λ d f. only (order f x) d) p q
 
   -- THEOREM: the order of two summands does not matter
-  pub sum_comm : {n : ℕ} (p q : Poly) → Raw n p → Raw n q → addPoly F p q ≡ addPoly F q p
+  pub sum_comm : {n : ℕ} (p q : Poly) → Raw n p → Raw n q → add_poly F p q ≡ add_poly F q p
   sum_comm p q h k =
-      same-normal F L (p ++ q) (q ++ p) (raw-append p q h k) (raw-append q p k h)
-      (λ x. coef-append p q x ∙ add_comm (coef F p x) (coef F q x) ∙ sym (coef-append q p x))
+      same-normal F L (p ++ q) (q ++ p) (raw_append p q h k) (raw_append q p k h)
+      (λ x. coef_append p q x ∙ add_comm (coef F p x) (coef F q x) ∙ sym (coef_append q p x))
 
   -- THEOREM: the left summand may be made normal first
-  pub sum-normal-left : {n : ℕ} (p q : Poly) → Raw n p → Raw n q → addPoly F (normal F p) q ≡ addPoly F p q
+  pub sum-normal-left : {n : ℕ} (p q : Poly) → Raw n p → Raw n q → add_poly F (normal F p) q ≡ add_poly F p q
   sum-normal-left p q h k =
-      same-normal F L (normal F p ++ q) (p ++ q) (raw-append (normal F p) q (raw-normal p h) k) (raw-append p q h k)
-      (λ x. coef-append (normal F p) q x ∙ ap (λ (y : ℕ). add y (coef F q x)) (coef-normal F L p x)
-      ∙ sym (coef-append p q x))
+      same-normal F L (normal F p ++ q) (p ++ q) (raw_append (normal F p) q (raw-normal p h) k) (raw_append p q h k)
+      (λ x. coef_append (normal F p) q x ∙ ap (λ (y : ℕ). add y (coef F q x)) (coef-normal F L p x)
+      ∙ sym (coef_append p q x))
 
   -- THEOREM: the right summand may be made normal first
-  pub sum-normal-right : {n : ℕ} (p q : Poly) → Raw n p → Raw n q → addPoly F p (normal F q) ≡ addPoly F p q
+  pub sum-normal-right : {n : ℕ} (p q : Poly) → Raw n p → Raw n q → add_poly F p (normal F q) ≡ add_poly F p q
   sum-normal-right p q h k = sum_comm p (normal F q) h (raw-normal q k) ∙ sum-normal-left q p k h ∙ sum_comm q p k h
 
   -- THEOREM: the grouping of three summands does not matter
   pub sum-assoc : {n : ℕ} (p q r : Poly) → Raw n p → Raw n q → Raw n r
-      → addPoly F (addPoly F p q) r ≡ addPoly F p (addPoly F q r)
+      → add_poly F (add_poly F p q) r ≡ add_poly F p (add_poly F q r)
   sum-assoc p q r h k l =
-      same-normal F L (addPoly F p q ++ r) (p ++ addPoly F q r)
-      (raw-append (addPoly F p q) r (raw-normal (p ++ q) (raw-append p q h k)) l)
-      (raw-append p (addPoly F q r) h (raw-normal (q ++ r) (raw-append q r k l)))
+      same-normal F L (add_poly F p q ++ r) (p ++ add_poly F q r)
+      (raw_append (add_poly F p q) r (raw-normal (p ++ q) (raw_append p q h k)) l)
+      (raw_append p (add_poly F q r) h (raw-normal (q ++ r) (raw_append q r k l)))
       (λ x.
-      coef-append (addPoly F p q) r x
-      ∙ ap (λ (y : ℕ). add y (coef F r x)) (coef-normal F L (p ++ q) x ∙ coef-append p q x)
+      coef_append (add_poly F p q) r x
+      ∙ ap (λ (y : ℕ). add y (coef F r x)) (coef-normal F L (p ++ q) x ∙ coef_append p q x)
       ∙ add_assoc (coef F p x) (coef F q x) (coef F r x)
-      ∙ ap (add (coef F p x)) (sym (coef-normal F L (q ++ r) x ∙ coef-append q r x))
-      ∙ sym (coef-append p (addPoly F q r) x))
+      ∙ ap (add (coef F p x)) (sym (coef-normal F L (q ++ r) x ∙ coef_append q r x))
+      ∙ sym (coef_append p (add_poly F q r) x))
 
   -- nothing added to a reduced polynomial
-  pub sum-none-left : {n : ℕ} (p : Poly) → Canon n p → addPoly F [] p ≡ p
-  sum-none-left p h = normal-canon F p h.sorted h.coefs
+  pub sum-none_left : {n : ℕ} (p : Poly) → Canon n p → add_poly F [] p ≡ p
+  sum-none_left p h = normal-canon F p h.sorted h.coefs
 
 -- ---- terms inserted one by one
 
@@ -77,9 +77,9 @@ module _ (F : Ops) where
   into-sorted (term c e ∷ p) q s = insert-sorted F c e (into F p q) (into-sorted p q s)
 
   -- two lists inserted: the second, and then the first
-  pub into-append : (p q r : Poly) → into F (p ++ q) r ≡ into F p (into F q r)
-  into-append [] q r = refl
-  into-append (term c e ∷ p) q r = ap (insert F c e) (into-append p q r)
+  pub into_append : (p q r : Poly) → into F (p ++ q) r ≡ into F p (into F q r)
+  into_append [] q r = refl
+  into_append (term c e ∷ p) q r = ap (insert F c e) (into_append p q r)
 
   -- terms inserted where none stood: the normal form
   pub into-none : (p : Poly) → into F p [] ≡ normal F p
@@ -97,5 +97,5 @@ module _ (F : Ops) where
   normal-into (term c e ∷ p) q = ap (insert F c e) (normal-into p q)
 
   -- THEOREM: to insert one by one is to add
-  pub add-into : {n : ℕ} (p q : Poly) → Canon n q → addPoly F p q ≡ into F p q
+  pub add-into : {n : ℕ} (p q : Poly) → Canon n q → add_poly F p q ≡ into F p q
   add-into p q h = normal-into p q ∙ ap (into F p) (normal-canon F q h.sorted h.coefs)

@@ -14,12 +14,12 @@ use Rattle.print.specs.Line.{Put}
 use Rattle.print.proofs.Laws.Put.{put-length}
 
 -- the last digit of a number that has more
-abbrev pub lastDigit : ℕ → ℕ
-lastDigit n = 48 + n % 10
+abbrev pub last_digit : ℕ → ℕ
+last_digit n = 48 + n % 10
 
 -- a tenth has one power of ten less
-tenth-lt : (k n : ℕ) → n < 10 ^ suc k → n / 10 < 10 ^ k
-tenth-lt k n h = (div-lt_iff_lt-mul (lit< tt)).1 (rw (← pow-suc) h)
+tenth_lt : (k n : ℕ) → n < 10 ^ suc k → n / 10 < 10 ^ k
+tenth_lt k n h = (div-lt_iff_lt-mul (lit< tt)).1 (rw (← pow-suc) h)
 
 -- a number of one digit, whatever follows
 digits-small : (k n : ℕ) (rest : List ℕ) → n < 10 → digits (suc k) n rest ≡ (48 + n) ∷ rest
@@ -27,9 +27,9 @@ unfolding digits
 digits-small k n rest h = rw (lt-ltb n 10 h)
 
 -- a number of more digits
-digits-large : (k n : ℕ) (rest : List ℕ) → 10 ≤ n → digits (suc k) n rest ≡ digits k (n / 10) (lastDigit n ∷ rest)
+digits_large : (k n : ℕ) (rest : List ℕ) → 10 ≤ n → digits (suc k) n rest ≡ digits k (n / 10) (last_digit n ∷ rest)
 unfolding digits
-digits-large k n rest h = rw (le-ltb n 10 h)
+digits_large k n rest h = rw (le-ltb n 10 h)
 
 -- no fuel: no digits
 digits-none : (n : ℕ) (rest : List ℕ) → digits 0 n rest ≡ rest
@@ -40,9 +40,9 @@ digits-none n rest = refl
 rest_more : (k n : ℕ) (rest : List ℕ) → ((l : List ℕ) → digits k (n / 10) l ≡ digits k (n / 10) [] ++ l) → Dec (10 ≤ n)
     → digits (suc k) n rest ≡ digits (suc k) n [] ++ rest
 rest_more k n rest ih (yes h) =
-    digits-large k n rest h ∙ ih (lastDigit n ∷ rest)
-    ∙ sym (append_assoc (digits k (n / 10) []) (lastDigit n ∷ []) rest)
-    ∙ ap (λ (l : List ℕ). l ++ rest) (sym (digits-large k n [] h ∙ ih (lastDigit n ∷ [])))
+    digits_large k n rest h ∙ ih (last_digit n ∷ rest)
+    ∙ sym (append_assoc (digits k (n / 10) []) (last_digit n ∷ []) rest)
+    ∙ ap (λ (l : List ℕ). l ++ rest) (sym (digits_large k n [] h ∙ ih (last_digit n ∷ [])))
 rest_more k n rest ih (no h) =
     digits-small k n rest (omega arith) ∙ sym (ap (λ (l : List ℕ). l ++ rest) (digits-small k n [] (omega arith)))
 
@@ -56,19 +56,19 @@ enough-more : (k n : ℕ) (rest : List ℕ) → ((l : List ℕ) → digits (suc 
     → Dec (10 ≤ n)
     → digits (suc (suc k)) n rest ≡ digits (suc k) n rest
 enough-more k n rest ih (yes h) =
-    digits-large (suc k) n rest h ∙ ih (lastDigit n ∷ rest) ∙ sym (digits-large k n rest h)
+    digits_large (suc k) n rest h ∙ ih (last_digit n ∷ rest) ∙ sym (digits_large k n rest h)
 enough-more k n rest ih (no h) = digits-small (suc k) n rest (omega arith) ∙ sym (digits-small k n rest (omega arith))
 
 -- more fuel than digits changes nothing
 digits-enough : (k n : ℕ) (rest : List ℕ) → n < 10 ^ suc k → digits (suc (suc k)) n rest ≡ digits (suc k) n rest
 digits-enough zero n rest h = digits-small 1 n rest (omega arith) ∙ sym (digits-small 0 n rest (omega arith))
 digits-enough (suc k) n rest h =
-    enough-more (suc k) n rest (λ l. digits-enough k (n / 10) l (tenth-lt (suc k) n h)) (dec_le 10 n)
+    enough-more (suc k) n rest (λ l. digits-enough k (n / 10) l (tenth_lt (suc k) n h)) (dec_le 10 n)
 
 -- one turn of `digits-length`
 length_more : (k n : ℕ) (rest : List ℕ) → ((l : List ℕ) → length (digits k (n / 10) l) ≤ k + length l) → Dec (10 ≤ n)
     → length (digits (suc k) n rest) ≤ suc k + length rest
-length_more k n rest ih (yes h) = rw (digits-large k n rest h) (omega (arith, ih (lastDigit n ∷ rest)))
+length_more k n rest ih (yes h) = rw (digits_large k n rest h) (omega (arith, ih (last_digit n ∷ rest)))
 length_more k n rest ih (no h) = let l : n < 10 = omega arith in rw (digits-small k n rest l) (omega arith)
 
 -- at most as many digits as fuel
@@ -78,10 +78,10 @@ digits-length (suc k) n rest = length_more k n rest (digits-length k (n / 10)) (
 
 -- a number of more digits: those of its tenth, and its last
 digits_more : (k n : ℕ) → 10 ≤ n → n < 10 ^ suc (suc k)
-    → digits (suc (suc k)) n [] ≡ digits (suc (suc k)) (n / 10) [] ++ lastDigit n ∷ []
+    → digits (suc (suc k)) n [] ≡ digits (suc (suc k)) (n / 10) [] ++ last_digit n ∷ []
 digits_more k n h l =
-    digits-large (suc k) n [] h ∙ digits-rest (suc k) (n / 10) (lastDigit n ∷ [])
-    ∙ ap (λ (d : List ℕ). d ++ lastDigit n ∷ []) (sym (digits-enough k (n / 10) [] (tenth-lt (suc k) n l)))
+    digits_large (suc k) n [] h ∙ digits-rest (suc k) (n / 10) (last_digit n ∷ [])
+    ∙ ap (λ (d : List ℕ). d ++ last_digit n ∷ []) (sym (digits-enough k (n / 10) [] (tenth_lt (suc k) n l)))
 
 -- ---- the decimal digits of a number below 2^64
 
@@ -91,7 +91,7 @@ unfolding decimal
 decimal-small n h = digits-small 19 n [] h
 
 -- a larger one is its tenth's digits and its last digit
-pub decimal-more : (n : ℕ) → 10 ≤ n → n < 2 ^ 64 → decimal n ≡ decimal (n / 10) ++ lastDigit n ∷ []
+pub decimal-more : (n : ℕ) → 10 ≤ n → n < 2 ^ 64 → decimal n ≡ decimal (n / 10) ++ last_digit n ∷ []
 unfolding decimal
 decimal-more n h l = digits_more 18 n h (lt_of_lt_of_le l (lit≤ tt))
 
@@ -101,8 +101,8 @@ unfolding decimal
 decimal-length n = digits-length 20 n []
 
 -- the number of digits, by its tenth
-pub decimal-length-more : (n : ℕ) → 10 ≤ n → n < 2 ^ 64 → length (decimal n) ≡ length (decimal (n / 10)) + 1
-decimal-length-more n h l = ap length (decimal-more n h l) ∙ length-append (decimal (n / 10)) (lastDigit n ∷ [])
+pub decimal-length_more : (n : ℕ) → 10 ≤ n → n < 2 ^ 64 → length (decimal n) ≡ length (decimal (n / 10)) + 1
+decimal-length_more n h l = ap length (decimal-more n h l) ∙ length-append (decimal (n / 10)) (last_digit n ∷ [])
 
 -- ---- room in a buffer
 
@@ -111,11 +111,11 @@ pub one-room : (n at : ℕ) (o : List ℕ) → n < 10 → at + length (decimal n
 one-room n at o h room = omega (arith, ap length (decimal-small n h))
 
 -- room for a number is room for its tenth
-pub tenth-room : (n at : ℕ) (o : List ℕ) → 10 ≤ n → n < 2 ^ 64 → at + length (decimal n) ≤ length o
+pub tenth_room : (n at : ℕ) (o : List ℕ) → 10 ≤ n → n < 2 ^ 64 → at + length (decimal n) ≤ length o
     → at + length (decimal (n / 10)) ≤ length o
-tenth-room n at o h l room = omega (arith, decimal-length-more n h l)
+tenth_room n at o h l room = omega (arith, decimal-length_more n h l)
 
 -- and then for its last digit
 pub last-room : (n : ℕ) {o x : List ℕ} {at m : ℕ} → Put o at (decimal (n / 10)) m x → 10 ≤ n → n < 2 ^ 64
     → at + length (decimal n) ≤ length o → m < length x
-last-room n {o} {x} {at} {m} f h l room = omega (arith, f.moved, put-length f, decimal-length-more n h l)
+last-room n {o} {x} {at} {m} f h l room = omega (arith, f.moved, put-length f, decimal-length_more n h l)

@@ -8,7 +8,7 @@ use mathlib.Core.List.{List, [], ◌∷◌, ◌++◌}
 use lib.ListN.{length, take, get_or}
 use lib.Seq.{take-suc, take_all, length-take-le}
 use Rattle.tokens.specs.Ascii.{tab}
-use Rattle.verdict.specs.Print.{hexes, hexDigit}
+use Rattle.verdict.specs.Print.{hexes, hex_digit}
 use Rattle.print.specs.Line.{Put}
 use Rattle.print.proofs.Laws.Put.{put-length}
 
@@ -19,10 +19,10 @@ hexes-length [] = refl
 hexes-length (b ∷ bs) = omega (arith, hexes-length bs)
 
 -- bytes listed one behind the other
-pub hexes-append : (bs cs : List ℕ) → hexes (bs ++ cs) ≡ hexes bs ++ hexes cs
+pub hexes_append : (bs cs : List ℕ) → hexes (bs ++ cs) ≡ hexes bs ++ hexes cs
 unfolding hexes
-hexes-append [] cs = refl
-hexes-append (b ∷ bs) cs = ap (λ (l : List ℕ). tab ∷ hexDigit (b / 16) ∷ hexDigit (b % 16) ∷ l) (hexes-append bs cs)
+hexes_append [] cs = refl
+hexes_append (b ∷ bs) cs = ap (λ (l : List ℕ). tab ∷ hex_digit (b / 16) ∷ hex_digit (b % 16) ∷ l) (hexes_append bs cs)
 
 -- no byte
 pub hexes-none : hexes [] ≡ []
@@ -30,14 +30,14 @@ unfolding hexes
 hexes-none = refl
 
 -- one byte
-pub hexes-one : (b : ℕ) → hexes (b ∷ []) ≡ (tab ∷ []) ++ (hexDigit (b / 16) ∷ []) ++ (hexDigit (b % 16) ∷ [])
+pub hexes-one : (b : ℕ) → hexes (b ∷ []) ≡ (tab ∷ []) ++ (hex_digit (b / 16) ∷ []) ++ (hex_digit (b % 16) ∷ [])
 unfolding hexes
 hexes-one b = refl
 
 -- the bytes before the next place
 pub hexes-next : (bs : List ℕ) (i : ℕ) → i < length bs
     → hexes (take i bs) ++ hexes (get_or bs i 0 ∷ []) ≡ hexes (take (i + 1) bs)
-hexes-next bs i h = sym (rw (add-one, take-suc bs i 0, hexes-append))
+hexes-next bs i h = sym (rw (add-one, take-suc bs i 0, hexes_append))
 
 -- room for all bytes is room for the next one
 pub hexes-room : (bs : List ℕ) (i : ℕ) {o x : List ℕ} {at m : ℕ} → Put o at (hexes (take i bs)) m x

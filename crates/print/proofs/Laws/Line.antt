@@ -7,7 +7,7 @@ use native.Mathlib.Nat.{zero-add}
 use mathlib.Core.List.{List, [], ◌∷◌, ◌++◌}
 use lib.ListN.{length, take, length-append}
 use borrow.Author.Tests.{le-leb, lt-leb}
-use Rattle.tokens.specs.Ascii.{tab, lineFeed}
+use Rattle.tokens.specs.Ascii.{tab, line_feed}
 use Rattle.verdict.specs.declared.report.Report.{Report}
 use Rattle.verdict.specs.declared.report.Verdict.{Verdict}
 use Rattle.verdict.specs.Print.{word, decimal, hexes}
@@ -16,19 +16,19 @@ use Rattle.print.proofs.Laws.Hexes.{hexes-length}
 use Rattle.print.proofs.Laws.Put.{Room}
 
 -- a word and five pieces
-length-six : (a b c d e f : List ℕ)
+length_six : (a b c d e f : List ℕ)
     → length (a ++ b ++ c ++ d ++ e ++ f) ≡ length a + length b + length c + length d + length e + length f
-length-six a b c d e f = simp length-append
+length_six a b c d e f = simp length-append
 
 -- the length of the head, part by part
-pub head-length : (r : Report) → length (head_of r)
+pub head_length : (r : Report) → length (head_of r)
     ≡ length (word r.verdict) + 5 + length (decimal r.refusal) + length (decimal r.line)
     + length (decimal r.terms) + length (decimal r.tried) + length (decimal r.idle)
 unfolding head_of
-head-length r =
+head_length r =
     omega (
       arith,
-      length-six (word r.verdict) (tab ∷ decimal r.refusal) (tab ∷ decimal r.line)
+      length_six (word r.verdict) (tab ∷ decimal r.refusal) (tab ∷ decimal r.line)
           (tab ∷ decimal r.terms) (tab ∷ decimal r.tried) (tab ∷ decimal r.idle),
     )
 
@@ -38,21 +38,21 @@ unfolding line_of
 line-length r bs =
     omega (
       arith,
-      length-append (head_of r ++ hexes bs) (lineFeed ∷ []),
+      length-append (head_of r ++ hexes bs) (line_feed ∷ []),
       length-append (head_of r)
           (hexes bs),
       hexes-length bs,
     )
 
 -- the pieces in the order in which they are put; n is the refusal's number
-pub head-parts : (r : Report) (n : ℕ) → n ≡ r.refusal
+pub head_parts : (r : Report) (n : ℕ) → n ≡ r.refusal
     → word r.verdict ++ tab ∷ decimal n ++ tab ∷ decimal r.line ++ tab ∷ decimal r.terms
     ++ tab ∷ decimal r.tried ++ tab ∷ decimal r.idle ≡ head_of r
 unfolding head_of
-head-parts r n e = rw e
+head_parts r n e = rw e
 
 -- the line is its three parts
-pub line-parts : (r : Report) (bs : List ℕ) → head_of r ++ hexes bs ++ lineFeed ∷ [] ≡ line_of r bs
+pub line-parts : (r : Report) (bs : List ℕ) → head_of r ++ hexes bs ++ line_feed ∷ [] ≡ line_of r bs
 unfolding line_of
 line-parts r bs = refl
 
@@ -75,12 +75,12 @@ formed-whole {line} {o} {x} {m} f =
 -- ---- room
 
 -- room for the head is room for its pieces; n is the refusal's number
-pub head-room : (r : Report) (n : ℕ) (o : List ℕ) → n ≡ r.refusal → length (head_of r) ≤ length o
+pub head_room : (r : Report) (n : ℕ) (o : List ℕ) → n ≡ r.refusal → length (head_of r) ≤ length o
     → Room o 0 (length (word r.verdict) ∷ length (tab ∷ decimal n) ∷ length (tab ∷ decimal r.line)
     ∷ length (tab ∷ decimal r.terms) ∷ length (tab ∷ decimal r.tried) ∷ length (tab ∷ decimal r.idle) ∷ [])
-head-room r n o e h =
+head_room r n o e h =
     let d : length (decimal n) ≡ length (decimal r.refusal) = ap (λ (k : ℕ). length (decimal k)) e in
-    record { room = omega (arith, head-length r) }
+    record { room = omega (arith, head_length r) }
 
 -- the two tests of `line` leave room for the head, the listed bytes and the line feed
 pub line-room : (r : Report) (bs o : List ℕ) (h : ℕ) → h ≡ length (head_of r) → h < length o
@@ -88,9 +88,9 @@ pub line-room : (r : Report) (bs o : List ℕ) (h : ℕ) → h ≡ length (head_
 line-room r bs o h e l k = record { room = omega (arith, hexes-length bs) }
 
 -- no room for the head and the line feed
-pub head-over : (r : Report) (bs o : List ℕ) (h : ℕ) → h ≡ length (head_of r) → length o ≤ h
+pub head_over : (r : Report) (bs o : List ℕ) (h : ℕ) → h ≡ length (head_of r) → length o ≤ h
     → length o < length (line_of r bs)
-head-over r bs o h e l = omega (arith, line-length r bs)
+head_over r bs o h e l = omega (arith, line-length r bs)
 
 -- no room for the listed bytes
 pub bytes-over : (r : Report) (bs o : List ℕ) (h : ℕ) → h ≡ length (head_of r) → h < length o

@@ -8,24 +8,24 @@ use mathlib.Core.List.{List}
 use lib.Dec.{eqb}
 use lib.ListN.{length, take, drop}
 use lib.Seq.{take-append_seam}
-use Rattle.rules.specs.Read.{Routine, Reading, accepted, readText}
+use Rattle.rules.specs.Read.{Routine, Reading, accepted, read_text}
 use Rattle.text.specs.declared.read.Reading as answer
 use Rattle.text.specs.Routine.{routine_of}
 use Rattle.text.specs.Reading.{reading_of, ReadingIs}
 use Rattle.verdict.specs.declared.report.Verdict.{Verdict}
 use Rattle.verdict.specs.declared.report.Verdict.TheVariants.{Equal, Differs, Unknown, Refused, Found}
 use Rattle.verdict.specs.declared.report.Trials.{Trials}
-use Rattle.verdict.specs.Judge.{Outcome, refused, equal, differs, unknown, found, report, listAfter, fronted}
-use Rattle.verdict.specs.Judge.{short, tooMany, outcome}
+use Rattle.verdict.specs.Judge.{Outcome, refused, equal, differs, unknown, found, report, list_after, fronted}
+use Rattle.verdict.specs.Judge.{short, too_many, outcome}
 use Rattle.verdict.specs.Verdict.{Claims, ClaimsIn}
-use Rattle.verdict.specs.Print.{listedBytes}
+use Rattle.verdict.specs.Print.{listed_bytes}
 use Rattle.verdict.proofs.Laws.Bytes.{bytes-length}
-use Rattle.verdict.proofs.Verdict.{finds-bytes}
+use Rattle.verdict.proofs.Verdict.{finds_bytes}
 use Rattle.verdict.proofs.Text.{outcome-claims}
-use Rattle.print.specs.Line.{listedWith}
+use Rattle.print.specs.Line.{listed_with}
 
 -- no more than the variables
-pub listed_le : (d : Verdict) (v : ℕ) → listedWith d v ≤ v
+pub listed_le : (d : Verdict) (v : ℕ) → listed_with d v ≤ v
 listed_le Equal v = omega arith
 listed_le Differs v = omega arith
 listed_le Unknown v = omega arith
@@ -33,37 +33,37 @@ listed_le Refused v = omega arith
 listed_le Found v = omega arith
 
 -- the number of a verdict that is told
-pub listed-told : {d e : Verdict} (v : ℕ) → d ≡ e → listedWith e v ≡ listedWith d v
-listed-told v h = ap (λ (x : Verdict). listedWith x v) (sym h)
+pub listed-told : {d e : Verdict} (v : ℕ) → d ≡ e → listed_with e v ≡ listed_with d v
+listed-told v h = ap (λ (x : Verdict). listed_with x v) (sym h)
 
 -- ---- what an outcome lists
 
 -- of an accepted text
 claimed-sized : (t : Trials) (r : Routine) (o : Outcome) → Claims t r o
-    → length (listedBytes o) ≡ listedWith (report o).verdict r.variables
-unfolding report listedBytes
+    → length (listed_bytes o) ≡ listed_with (report o).verdict r.variables
+unfolding report listed_bytes
 claimed-sized t r (refused number line) c = refl
 claimed-sized t r (equal i) c = refl
 claimed-sized t r (differs n i bs) c = bytes-length r.variables bs c.bytes
 claimed-sized t r (unknown line made) c = refl
-claimed-sized t r (found line made bs) c = bytes-length r.variables bs (finds-bytes c)
+claimed-sized t r (found line made bs) c = bytes-length r.variables bs (finds_bytes c)
 
 -- a refusal lists none
 refused-sized : (v number line : ℕ) (o : Outcome) → o ≡ refused number line
-    → length (listedBytes o) ≡ listedWith (report o).verdict v
-unfolding report listedBytes
+    → length (listed_bytes o) ≡ listed_with (report o).verdict v
+unfolding report listed_bytes
 refused-sized v number line o e =
-    subst (λ (p : Outcome). length (listedBytes p) ≡ listedWith (report p).verdict v) (sym e) refl
+    subst (λ (p : Outcome). length (listed_bytes p) ≡ listed_with (report p).verdict v) (sym e) refl
 
 -- of every text, where v is its number of variables
-in-sized : (s m : Bool) (t : Trials) (g : Reading) (o : Outcome) → ClaimsIn s m t g o → (v : ℕ)
+in_sized : (s m : Bool) (t : Trials) (g : Reading) (o : Outcome) → ClaimsIn s m t g o → (v : ℕ)
     → ((r : Routine) → g ≡ accepted r → v ≡ r.variables)
-    → length (listedBytes o) ≡ listedWith (report o).verdict v
-in-sized true m t g o c v h = refused-sized v 1 0 o c
-in-sized false true t g o c v h = refused-sized v 14 0 o c
-in-sized false false t (Reading.refused number line) o c v h = refused-sized v number line o c
-in-sized false false t (Reading.accepted r) o c v h =
-    claimed-sized t r o c ∙ ap (listedWith (report o).verdict) (sym (h r refl))
+    → length (listed_bytes o) ≡ listed_with (report o).verdict v
+in_sized true m t g o c v h = refused-sized v 1 0 o c
+in_sized false true t g o c v h = refused-sized v 14 0 o c
+in_sized false false t (Reading.refused number line) o c v h = refused-sized v number line o c
+in_sized false false t (Reading.accepted r) o c v h =
+    claimed-sized t r o c ∙ ap (listed_with (report o).verdict) (sym (h r refl))
 
 -- ---- the variables of a text are those that reading gives
 
@@ -78,20 +78,20 @@ variables-read d r = go (eqb d.refusal 0)
 
 -- THEOREM: what comes of a text lists as many bytes as its verdict does, for the variables that reading gives
 pub outcome-sized : (t : Trials) (left right list : ℕ) (text : List ℕ) (d : answer.Reading)
-    → ReadingIs d (readText text)
-    → length (listedBytes (outcome t left right list text))
-    ≡ listedWith (report (outcome t left right list text)).verdict d.routine.variables
+    → ReadingIs d (read_text text)
+    → length (listed_bytes (outcome t left right list text))
+    ≡ listed_with (report (outcome t left right list text)).verdict d.routine.variables
 outcome-sized t left right list text d R =
-    in-sized (short left right list) (tooMany t) t (readText text) (outcome t left right list text)
+    in_sized (short left right list) (too_many t) t (read_text text) (outcome t left right list text)
     (outcome-claims t left right list text) d.routine.variables (λ r e. variables-read d r (R.answer ∙ e))
 
 -- ---- the list that judge leaves
 
 -- so many bytes at its front are the listed ones
-pub listed-bytes : (o : Outcome) (l : List ℕ) → take (length (listedBytes o)) (listAfter o l) ≡ listedBytes o
-unfolding listAfter listedBytes fronted
-listed-bytes (refused number line) l = refl
-listed-bytes (equal i) l = refl
-listed-bytes (differs n i bs) l = take-append_seam bs (drop (length bs) l)
-listed-bytes (unknown line made) l = refl
-listed-bytes (found line made bs) l = take-append_seam bs (drop (length bs) l)
+pub listed_bytes_lem : (o : Outcome) (l : List ℕ) → take (length (listed_bytes o)) (list_after o l) ≡ listed_bytes o
+unfolding list_after listed_bytes fronted
+listed_bytes_lem (refused number line) l = refl
+listed_bytes_lem (equal i) l = refl
+listed_bytes_lem (differs n i bs) l = take-append_seam bs (drop (length bs) l)
+listed_bytes_lem (unknown line made) l = refl
+listed_bytes_lem (found line made bs) l = take-append_seam bs (drop (length bs) l)

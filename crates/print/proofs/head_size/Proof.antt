@@ -1,6 +1,6 @@
 -- `print::head_size` meets its contract. Assumes nothing.
 use Rattle.verdict.specs.Print.{word, decimal}
-use Rattle.print.proofs.Laws.Line.{head-length}
+use Rattle.print.proofs.Laws.Line.{head_length}
 use native.Mathlib.Omega.{arith}
 use Prim.Native.Nat.{ℕ}
 use mathlib.Core.Path.{◌≡◌, ap, ◌∙◌}
@@ -61,7 +61,7 @@ returns c =
     let e : c.before.before.digits-of3.result ≡ length (decimal r.terms) = c.before.before.digits-of3.ensures.0 in
     let f : c.before.digits-of4.result ≡ length (decimal r.tried) = c.before.digits-of4.ensures.0 in
     let g : c.digits-of5.result ≡ length (decimal r.idle) = c.digits-of5.ensures.0 in
-    (omega (arith, head-length r), search rules)
+    (omega (arith, head_length r), search rules)
 
 pub head-size-spec : {M : Type 1} → statement M
 head-size-spec =

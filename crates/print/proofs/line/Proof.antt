@@ -1,7 +1,7 @@
 -- `print::line` meets its contract. Assumes nothing.
 use Rattle.print.specs.Line.{line_of}
 use Rattle.print.proofs.Laws.Put.{put_as, put-join, room-front, room-here, room-byte, room_after}
-use Rattle.print.proofs.Laws.Line.{line-room, head-over, bytes-over, formed-short, formed-whole, line-parts}
+use Rattle.print.proofs.Laws.Line.{line-room, head_over, bytes-over, formed-short, formed-whole, line-parts}
 use borrow.Author.Rules.{rules}
 use Rattle.print.proofs.line.Statement.{statement}
 use Rattle.print.proofs.line.Tie as tie
@@ -13,7 +13,7 @@ returns : tie.Need-returns
 returns c =
     let a = c.before.before.before.before.args in
     formed-short (line_of a.report a.bytes.now) a.out.now
-    (head-over a.report a.bytes.now a.out.now c.before.head-size.result
+    (head_over a.report a.bytes.now a.out.now c.before.head-size.result
     c.before.head-size.ensures.0 c.if1.true)
 
 sub-if2 : tie.Need-overflow-sub-if2

@@ -1,7 +1,7 @@
 -- `print::put_head` meets its contract. Assumes nothing.
 use Rattle.print.proofs.Laws.Put.{room-here, room-front, room_after}
-use Rattle.print.proofs.Laws.Line.{head-room}
-use Rattle.print.proofs.Laws.Line.{head-parts}
+use Rattle.print.proofs.Laws.Line.{head_room}
+use Rattle.print.proofs.Laws.Line.{head_parts}
 use Rattle.print.proofs.Laws.Put.{put_as, put-join}
 use mathlib.Core.Path.{refl}
 use borrow.Author.Rules.{rules}
@@ -11,7 +11,7 @@ use Rattle.print.proofs.put_head.Tie as tie
 put-word-requires : tie.Need-put-word-requires
 put-word-requires c κs =
     let s = c.before.before in
-    room-front (head-room s.args.report s.args.report.refusal s.args.out.now refl s.requires)
+    room-front (head_room s.args.report s.args.report.refusal s.args.out.now refl s.requires)
 
 wide-requires : tie.Need-wide-requires
 wide-requires c κs = search rules
@@ -22,7 +22,7 @@ put-number-requires c κs =
     let w = c.before in
     room-here
     (room_after c.before.before.before.before.put_word.ensures
-    (head-room s.args.report w.wide.result s.args.out.now w.wide.ensures s.requires))
+    (head_room s.args.report w.wide.result s.args.out.now w.wide.ensures s.requires))
 
 put-number-requires-2 : tie.Need-put-number-requires-2
 put-number-requires-2 c κs =
@@ -31,7 +31,7 @@ put-number-requires-2 c κs =
     room-here
     (room_after c.before.before.before.put-number.ensures
     (room_after c.before.before.before.before.before.before.before.before.put_word.ensures
-    (head-room s.args.report w.wide.result s.args.out.now w.wide.ensures s.requires)))
+    (head_room s.args.report w.wide.result s.args.out.now w.wide.ensures s.requires)))
 
 put-number-requires-3 : tie.Need-put-number-requires-3
 put-number-requires-3 c κs =
@@ -40,7 +40,7 @@ put-number-requires-3 c κs =
     room-here
     (room_after c.before.before.before.put-number2.ensures
     (room_after c.before.before.before.before.before.before.before.put-number.ensures
-    (room_after c.before.before.before.before.before.before.before.before.before.before.before.before.put_word.ensures (head-room s.args.report w.wide.result s.args.out.now w.wide.ensures
+    (room_after c.before.before.before.before.before.before.before.before.before.before.before.before.put_word.ensures (head_room s.args.report w.wide.result s.args.out.now w.wide.ensures
     s.pre))))
 
 put-number-requires-4 : tie.Need-put-number-requires-4
@@ -52,7 +52,7 @@ put-number-requires-4 c κs =
     (room_after c.before.before.before.before.before.before.before.put-number2.ensures
     (room_after c.before.before.before.before.before.before.before.before.before.before.before.put-number.ensures
     (room_after c.before.before.before.before.before.before.before.before.before.before.before.before.before.before.before.before.put_word.ensures
-    (head-room s.args.report w.wide.result s.args.out.now w.wide.ensures s.pre)))))
+    (head_room s.args.report w.wide.result s.args.out.now w.wide.ensures s.pre)))))
 
 put-number-requires-5 : tie.Need-put-number-requires-5
 put-number-requires-5 c κs =
@@ -64,7 +64,7 @@ put-number-requires-5 c κs =
     (room_after c.before.before.before.before.before.before.before.before.before.before.before.put-number2.ensures
     (room_after c.before.before.before.before.before.before.before.before.before.before.before.before.before.before.before.put-number.ensures
     (room_after c.before.before.before.before.before.before.before.before.before.before.before.before.before.before.before.before.before.before.before.before.put_word.ensures
-    (head-room s.args.report w.wide.result s.args.out.now w.wide.ensures s.pre))))))
+    (head_room s.args.report w.wide.result s.args.out.now w.wide.ensures s.pre))))))
 
 same_length : tie.Need-same-length
 same_length c = search rules
@@ -81,7 +81,7 @@ returns c =
     let r = n0.before.before.before.args.report in
     let first = put-join (put-join n0.put_word.ensures n1.put-number.ensures) n2.put-number2.ensures in
     let more = put-join (put-join first n3.put-number3.ensures) n4.put-number4.ensures in
-    put_as (head-parts r w.wide.result w.wide.ensures) (put-join more n5.put-number5.ensures)
+    put_as (head_parts r w.wide.result w.wide.ensures) (put-join more n5.put-number5.ensures)
 
 pub put-head-spec : {M : Type 1} → statement M
 put-head-spec =

@@ -8,11 +8,11 @@ use lib.ListN.{length, get_or, take, drop, set, replicate, length-set, length-re
 use lib.Seq.{get_or-set_same, get_or-set_other}
 use Rattle.field.specs.Field.{times}
 use Rattle.field.specs.Laws.{Ops, gf}
-use Rattle.poly.specs.Poly.{Term, term, Poly, addPows, constant, square}
-use Rattle.poly.specs.Size.{oneIf}
-use Rattle.buffer.specs.Buffer.{termAt, readTerms}
+use Rattle.poly.specs.Poly.{Term, term, Poly, add_pows, constant, square}
+use Rattle.poly.specs.Size.{one_if}
+use Rattle.buffer.specs.Buffer.{term_at, read_terms}
 use Rattle.buffer.specs.Move.{Written}
-use Rattle.product.specs.Product.{termTimes, RowAsked, RowAdded}
+use Rattle.product.specs.Product.{term_times, RowAsked, RowAdded}
 use Rattle.product.specs.Apply.{Constant, Squared, ScaledAsked, ScaledAdded}
 use Rattle.buffer.proofs.Lent.Moves.{stored}
 use Rattle.buffer.proofs.Lent.Reads.{part_same, read_same, term-written}
@@ -26,7 +26,7 @@ pub constant-none : (b : List ℕ) (c w : ℕ) → c ≡ 0 → Constant b b c w 
 constant-none b c w z = record { size = refl; terms = ap (constant (w - 1)) (sym z); high = λ j h. refl }
 
 -- there is room for the term of a constant other than zero
-pub constant-fits : (c w len : ℕ) → 0 < c → oneIf c * w ≤ len → w ≤ len
+pub constant-fits : (c w len : ℕ) → 0 < c → one_if c * w ≤ len → w ≤ len
 constant-fits zero w len p h = absurd (omega arith)
 constant-fits (suc c) w len p h = omega (arith, one-mul w)
 
@@ -57,7 +57,7 @@ cleared_more b₀ b c j l g h = record {
 }
 
 -- all powers are cleared: the constant stands there
-pub constant-done : (b₀ b : List ℕ) (c w j : ℕ) → 0 < w → 0 < c → oneIf c * w ≤ length b₀ → w ≤ j → j ≤ w
+pub constant-done : (b₀ b : List ℕ) (c w j : ℕ) → 0 < w → 0 < c → one_if c * w ≤ length b₀ → w ≤ j → j ≤ w
     → Cleared (set b₀ 0 c) b c j
     → Constant b₀ b c w 1
 constant-done b₀ b zero w j p z f g k h = absurd (omega arith)
@@ -79,16 +79,16 @@ constant-done b₀ b (suc c) w j p z f g k h = record {
 -- ---- a scaled row
 
 -- a coefficient of zero adds nothing
-pub scaled-none : (m : ℕ) (b : List ℕ) (r l : ℕ) (src : List ℕ) (k w : ℕ) → l ≡ 0 → ScaledAdded m b b r l src k w r
-scaled-none m b r l src k w z =
+pub scaled_none : (m : ℕ) (b : List ℕ) (r l : ℕ) (src : List ℕ) (k w : ℕ) → l ≡ 0 → ScaledAdded m b b r l src k w r
+scaled_none m b r l src k w z =
     subst (λ (x : ℕ). ScaledAdded m b b r x src k w r) (sym z)
     (record { size = refl; terms = refl; high = λ j h. refl })
 
 -- where l is not zero, this is the row of a term without powers
-pub scaled-row-asks : (b : List ℕ) (r l : ℕ) (src : List ℕ) (k : ℕ) (t : List ℕ) → 0 < l → ScaledAsked b r l src k t
+pub scaled_row_asks : (b : List ℕ) (r l : ℕ) (src : List ℕ) (k : ℕ) (t : List ℕ) → 0 < l → ScaledAsked b r l src k t
     → RowAsked b r (l ∷ []) src k (length t)
-scaled-row-asks b r zero src k t p a = absurd (omega arith)
-scaled-row-asks b r (suc l) src k t p a = record {
+scaled_row_asks b r zero src k t p a = absurd (omega arith)
+scaled_row_asks b r (suc l) src k t p a = record {
   some = omega arith;
   within = a.some;
   source = a.source;
@@ -97,11 +97,11 @@ scaled-row-asks b r (suc l) src k t p a = record {
 }
 
 -- the row of such a term is what is asked
-pub scaled-row-done : (m : ℕ) (b b' : List ℕ) (r l : ℕ) (src : List ℕ) (k w n : ℕ) → 0 < l
+pub scaled_row_done : (m : ℕ) (b b' : List ℕ) (r l : ℕ) (src : List ℕ) (k w n : ℕ) → 0 < l
     → RowAdded m b b' r (l ∷ []) src k w n
     → ScaledAdded m b b' r l src k w n
-scaled-row-done m b b' r zero src k w n p h = absurd (omega arith)
-scaled-row-done m b b' r (suc l) src k w n p h = record {
+scaled_row_done m b b' r zero src k w n p h = absurd (omega arith)
+scaled_row_done m b b' r (suc l) src k w n p h = record {
   size = h.size;
   terms = h.terms;
   high = λ j g. h.high j (subst (λ (x : ℕ). (r + x) * w ≤ j) (one-mul k) g);
@@ -117,8 +117,8 @@ pub record InSquares (m : ℕ) (src₀ : List ℕ) (k : ℕ) (t₀ src t : List 
   pub here : at ≡ j * length t₀
   pub spare : length t ≡ length t₀
   pub size : length src ≡ length src₀
-  pub done : readTerms (length t₀ - 1) src (j * length t₀) (k - j)
-      ≡ square (gf m) (readTerms (length t₀ - 1) src₀ (j * length t₀) (k - j))
+  pub done : read_terms (length t₀ - 1) src (j * length t₀) (k - j)
+      ≡ square (gf m) (read_terms (length t₀ - 1) src₀ (j * length t₀) (k - j))
   pub low : (i : ℕ) → i < j * length t₀ → get_or src i 0 ≡ get_or src₀ i 0
   pub high : (i : ℕ) → k * length t₀ ≤ i → get_or src i 0 ≡ get_or src₀ i 0
 
@@ -132,8 +132,8 @@ module _ (m : ℕ) (src₀ : List ℕ) (k : ℕ) (t₀ : List ℕ) where
   w = length t₀
 
   -- at first no term is squared
-  pub squares-start : 0 < w → k * w ≤ length src₀ → InSquares m src₀ k t₀ src₀ t₀ k (k * w)
-  squares-start p f =
+  pub squares_start : 0 < w → k * w ≤ length src₀ → InSquares m src₀ k t₀ src₀ t₀ k (k * w)
+  squares_start p f =
       let z : 0 ≡ k - k = omega arith in
       record {
         some = p;
@@ -142,20 +142,20 @@ module _ (m : ℕ) (src₀ : List ℕ) (k : ℕ) (t₀ : List ℕ) where
         here = refl;
         spare = refl;
         size = refl;
-        done = subst (λ (x : ℕ). readTerms (w - 1) src₀ (k * w) x ≡ square F (readTerms (w - 1) src₀ (k * w) x)) z refl;
+        done = subst (λ (x : ℕ). read_terms (w - 1) src₀ (k * w) x ≡ square F (read_terms (w - 1) src₀ (k * w) x)) z refl;
         low = λ i h. refl;
         high = λ i h. refl;
       }
 
   -- at last every term is
-  pub squares-done : (src t : List ℕ) (j at : ℕ) → j ≡ 0 → InSquares m src₀ k t₀ src t j at → Squared m src₀ src k w
-  squares-done src t j at z h =
+  pub squares_done : (src t : List ℕ) (j at : ℕ) → j ≡ 0 → InSquares m src₀ k t₀ src t j at → Squared m src₀ src k w
+  squares_done src t j at z h =
       let y : j * w ≡ 0 = ap (λ (x : ℕ). x * w) z ∙ zero-mul w in
       let x : k - j ≡ k = omega arith in
       record {
         size = h.size;
-        terms = subst (λ (u : ℕ). readTerms (w - 1) src u k ≡ square F (readTerms (w - 1) src₀ u k)) y
-            (subst (λ (v : ℕ). readTerms (w - 1) src (j * w) v ≡ square F (readTerms (w - 1) src₀ (j * w) v)) x
+        terms = subst (λ (u : ℕ). read_terms (w - 1) src u k ≡ square F (read_terms (w - 1) src₀ u k)) y
+            (subst (λ (v : ℕ). read_terms (w - 1) src (j * w) v ≡ square F (read_terms (w - 1) src₀ (j * w) v)) x
             h.done);
         high = h.high;
       }
@@ -197,20 +197,20 @@ module _ (m : ℕ) (src₀ : List ℕ) (k : ℕ) (t₀ : List ℕ) where
         ∙ part_same src src₀ (suc (at - w)) (w - 1) h.size
         (λ i p q. h.low i (omega (arith, square-back, h.here, h.some)))
 
-    module _ (t' src' : List ℕ) (made : t' ≡ termTimes m one one) (same : length t' ≡ length t)
+    module _ (t' src' : List ℕ) (made : t' ≡ term_times m one one) (same : length t' ≡ length t)
         (g : Written src src' (at - w) t') where
       -- the bytes of the square
-      bytes : t' ≡ times m c₀ c₀ ∷ addPows e₀ e₀
-      bytes = made ∙ ap₂ {C = List ℕ} (λ (x : ℕ) (y : List ℕ). times m x x ∷ addPows y y) one-first one-powers
+      bytes : t' ≡ times m c₀ c₀ ∷ add_pows e₀ e₀
+      bytes = made ∙ ap₂ {C = List ℕ} (λ (x : ℕ) (y : List ℕ). times m x x ∷ add_pows y y) one-first one-powers
 
       -- it has as many powers
-      powers-length : length (addPows e₀ e₀) ≡ w - 1
+      powers-length : length (add_pows e₀ e₀) ≡ w - 1
       powers-length = omega (arith, ap length bytes, same, h.spare, h.some)
 
       -- the square stands in the term's place
-      squared-here : termAt (w - 1) src' (at - w) ≡ term (times m c₀ c₀) (addPows e₀ e₀)
+      squared-here : term_at (w - 1) src' (at - w) ≡ term (times m c₀ c₀) (add_pows e₀ e₀)
       squared-here =
-          term-written (w - 1) src' (at - w) (times m c₀ c₀) (addPows e₀ e₀) powers-length
+          term-written (w - 1) src' (at - w) (times m c₀ c₀) (add_pows e₀ e₀) powers-length
           (omega (arith, square-back, g.size, h.some))
           (λ i q. g.here i (omega (arith, same, h.spare, h.some)) ∙ ap (λ (x : List ℕ). get_or x i 0) bytes)
 
@@ -219,22 +219,22 @@ module _ (m : ℕ) (src₀ : List ℕ) (k : ℕ) (t₀ : List ℕ) where
       place_here = (omega (arith, square-back), omega (arith, square-back, h.here))
 
       -- the terms from this one on are squared
-      done_more : readTerms (w - 1) src' ((j - 1) * w) (k - (j - 1))
-          ≡ square F (readTerms (w - 1) src₀ ((j - 1) * w) (k - (j - 1)))
+      done_more : read_terms (w - 1) src' ((j - 1) * w) (k - (j - 1))
+          ≡ square F (read_terms (w - 1) src₀ ((j - 1) * w) (k - (j - 1)))
       done_more =
           let y = place_here.0 in
           let e = place_here.1 in
-          ap (λ (x : ℕ). readTerms (w - 1) src' x (k - (j - 1))) (sym y)
+          ap (λ (x : ℕ). read_terms (w - 1) src' x (k - (j - 1))) (sym y)
           ∙ read_back src' w j k (at - w) h.some l h.most e
           ∙ ap₂ {C = Poly} ◌∷◌ squared-here
           (read_same (w - 1) src' src (j * w) (k - j) g.size
           (λ i p q. g.high i (omega (arith, same, h.spare, e))) ∙ h.done)
           ∙ ap (square F) (sym (read_back src₀ w j k (at - w) h.some l h.most e))
-          ∙ ap (λ (x : ℕ). square F (readTerms (w - 1) src₀ x (k - (j - 1)))) y
+          ∙ ap (λ (x : ℕ). square F (read_terms (w - 1) src₀ x (k - (j - 1)))) y
 
       -- one term more is squared
-      pub squares-more : InSquares m src₀ k t₀ src' t' (j - 1) (at - w)
-      squares-more =
+      pub squares_more : InSquares m src₀ k t₀ src' t' (j - 1) (at - w)
+      squares_more =
           let u = square-back in
           let last : at ≤ k * w = omega (arith, h.here, mul-le-mul_right w h.most) in
           record {

@@ -9,12 +9,12 @@ use native.Mathlib.Nat.{add-mul, le-add_right, mul-le-mul_right}
 use lib.ListN.{length, get_or, drop}
 use lib.Seq.{drop-cons, drop-length}
 use Rattle.field.specs.Laws.{Ops, gf}
-use Rattle.field.proofs.Laws.Field.{gf-laws}
-use Rattle.poly.specs.Poly.{Poly, constant, into, normal, scale, square, linearRaw, mapPoly}
+use Rattle.field.proofs.Laws.Field.{gf_laws}
+use Rattle.poly.specs.Poly.{Poly, constant, into, normal, scale, square, linear_raw, map_poly}
 use Rattle.poly.specs.Canon.{Sorted, Canon, Raw}
-use Rattle.poly.specs.Size.{oneIf, nonzeros}
-use Rattle.buffer.specs.Buffer.{readTerms}
-use Rattle.poly.specs.Poly.{unlessZero}
+use Rattle.poly.specs.Size.{one_if, nonzeros}
+use Rattle.buffer.specs.Buffer.{read_terms}
+use Rattle.poly.specs.Poly.{unless_zero}
 use Rattle.product.specs.Apply.{Constant, Squared, ScaledAsked, ScaledAdded, ApplyAsked, Applied}
 use Rattle.poly.proofs.Laws.Normal.{normal-canon}
 use Rattle.poly.proofs.Laws.Reduced.{canon-constant}
@@ -33,19 +33,19 @@ pub record InApply (m c : ℕ) (ls b₀ src₀ : List ℕ) (k : ℕ) (t₀ b src
   pub source : length src ≡ length src₀
   pub above : (i : ℕ) → k * length t₀ ≤ i → get_or src i 0 ≡ get_or src₀ i 0
   pub size : length b ≡ length b₀
-  pub high : (i : ℕ) → (oneIf c + nonzeros ls * k) * length t₀ ≤ i → get_or b i 0 ≡ get_or b₀ i 0
-  pub room : n + nonzeros (drop j ls) * k ≤ oneIf c + nonzeros ls * k
-  pub terms : Raw (length t₀ - 1) (readTerms (length t₀ - 1) src 0 k)
-  pub canon : Canon (length t₀ - 1) (readTerms (length t₀ - 1) b 0 n)
-  pub left : normal (gf m) (linearRaw (gf m) (drop j ls) (readTerms (length t₀ - 1) src 0 k) ++ readTerms
+  pub high : (i : ℕ) → (one_if c + nonzeros ls * k) * length t₀ ≤ i → get_or b i 0 ≡ get_or b₀ i 0
+  pub room : n + nonzeros (drop j ls) * k ≤ one_if c + nonzeros ls * k
+  pub terms : Raw (length t₀ - 1) (read_terms (length t₀ - 1) src 0 k)
+  pub canon : Canon (length t₀ - 1) (read_terms (length t₀ - 1) b 0 n)
+  pub left : normal (gf m) (linear_raw (gf m) (drop j ls) (read_terms (length t₀ - 1) src 0 k) ++ read_terms
       (length t₀ - 1) b 0 n)
-      ≡ mapPoly (gf m) (length t₀ - 1) c ls (readTerms (length t₀ - 1) src₀ 0 k)
+      ≡ map_poly (gf m) (length t₀ - 1) c ls (read_terms (length t₀ - 1) src₀ 0 k)
 
 -- room for the constant alone
 pub first-room : (m c : ℕ) (ls b src : List ℕ) (k : ℕ) (t : List ℕ) → ApplyAsked m c ls b src k t
-    → oneIf c * length t ≤ length b
+    → one_if c * length t ≤ length b
 first-room m c ls b src k t a =
-    omega (arith, a.room, mul-le-mul_right (length t) (le-add_right (oneIf c) (nonzeros ls * k)))
+    omega (arith, a.room, mul-le-mul_right (length t) (le-add_right (one_if c) (nonzeros ls * k)))
 
 module _ (m c : ℕ) (ls : List ℕ) (src₀ : List ℕ) (k : ℕ) (t₀ : List ℕ) where
   -- the field
@@ -58,7 +58,7 @@ module _ (m c : ℕ) (ls : List ℕ) (src₀ : List ℕ) (k : ℕ) (t₀ : List 
 
   -- the end of the room for the image
   abbrev top : ℕ
-  top = (oneIf c + nonzeros ls * k) * w
+  top = (one_if c + nonzeros ls * k) * w
 
   -- at first the constant stands there
   pub apply-start : (b b₀ : List ℕ) (n : ℕ) → length ls ≡ 8 → c < 256 → ApplyAsked m c ls b src₀ k t₀
@@ -83,11 +83,11 @@ module _ (m c : ℕ) (ls : List ℕ) (src₀ : List ℕ) (k : ℕ) (t₀ : List 
     room = omega (arith, holds-count o, constant-length c);
     terms = a.terms;
     canon = subst (Canon (w - 1)) (sym o.terms) (canon-constant (w - 1) c h);
-    left = ap (λ (d : Poly). normal F (linearRaw F ls (readTerms (w - 1) src₀ 0 k) ++ d)) o.terms
-        ∙ map_first F (gf-laws a.modulus) (w - 1) c ls (readTerms (w - 1) src₀ 0 k) h a.terms;
+    left = ap (λ (d : Poly). normal F (linear_raw F ls (read_terms (w - 1) src₀ 0 k) ++ d)) o.terms
+        ∙ map_first F (gf_laws a.modulus) (w - 1) c ls (read_terms (w - 1) src₀ 0 k) h a.terms;
   }
     where
-      constant-length : (x : ℕ) → length (constant (w - 1) x) ≡ oneIf x
+      constant-length : (x : ℕ) → length (constant (w - 1) x) ≡ one_if x
       constant-length zero = refl
       constant-length (suc x) = refl
 
@@ -99,12 +99,12 @@ module _ (m c : ℕ) (ls : List ℕ) (src₀ : List ℕ) (k : ℕ) (t₀ : List 
         record {
           held = record {
             size = h.size ∙ o.size;
-            terms = sym (normal-canon F (readTerms (w - 1) b 0 n) h.canon.sorted h.canon.coefs)
-                ∙ sym (ap (λ (x : List ℕ). normal F (linearRaw F x (readTerms (w - 1) src 0 k) ++ readTerms (w - 1) b
+            terms = sym (normal-canon F (read_terms (w - 1) b 0 n) h.canon.sorted h.canon.coefs)
+                ∙ sym (ap (λ (x : List ℕ). normal F (linear_raw F x (read_terms (w - 1) src 0 k) ++ read_terms (w - 1) b
                 0 n)) z) ∙ h.left;
             high = λ i g. h.high i g ∙ o.high i (omega (
               arith,
-              mul-le-mul_right w (le-add_right (oneIf c) (nonzeros ls * k)),
+              mul-le-mul_right w (le-add_right (one_if c) (nonzeros ls * k)),
             ));
           };
           source = h.source;
@@ -116,48 +116,48 @@ module _ (m c : ℕ) (ls : List ℕ) (src₀ : List ℕ) (k : ℕ) (t₀ : List 
 
     module _ (l : j < 8) where
       -- the coefficient at hand
-      abbrev pub now-l : ℕ
-      now-l = get_or ls j 0
+      abbrev pub now_l : ℕ
+      now_l = get_or ls j 0
 
       -- the coefficients from j on: this one, and those behind it
-      split : drop j ls ≡ now-l ∷ drop (suc j) ls
+      split : drop j ls ≡ now_l ∷ drop (suc j) ls
       split = drop-cons ls j 0 (omega (arith, h.eight))
 
       -- what is inserted now, and what is left after it
-      room_split : n + oneIf now-l * k + nonzeros (drop (suc j) ls) * k ≤ oneIf c + nonzeros ls * k
+      room_split : n + one_if now_l * k + nonzeros (drop (suc j) ls) * k ≤ one_if c + nonzeros ls * k
       room_split =
           omega (
             arith,
             h.room,
             ap (λ (x : List ℕ). nonzeros x * k) split,
-            add-mul (oneIf now-l) (nonzeros (drop (suc j) ls)) k,
+            add-mul (one_if now_l) (nonzeros (drop (suc j) ls)) k,
           )
 
       -- what is inserted now has room
-      within : (n + oneIf now-l * k) * w ≤ top
+      within : (n + one_if now_l * k) * w ≤ top
       within = mul-le-mul_right w (omega (arith, room_split))
 
       -- what the next row asks
-      pub apply-asks : ScaledAsked b n now-l src k t
-      apply-asks = record {
+      pub apply_asks : ScaledAsked b n now_l src k t
+      apply_asks = record {
         some = omega (arith, h.asked.some, h.spare);
         source = subst (λ (x : ℕ). k * x ≤ length src) (sym h.spare) (omega (arith, h.asked.source, h.source));
-        room = subst (λ (x : ℕ). (n + oneIf now-l * k) * x ≤ length b) (sym h.spare)
+        room = subst (λ (x : ℕ). (n + one_if now_l * k) * x ≤ length b) (sym h.spare)
             (omega (arith, within, h.asked.room, h.size));
-        sorted = subst (λ (x : ℕ). Sorted (readTerms (x - 1) b 0 n)) (sym h.spare) h.canon.sorted;
+        sorted = subst (λ (x : ℕ). Sorted (read_terms (x - 1) b 0 n)) (sym h.spare) h.canon.sorted;
       }
 
       -- the row is inserted, and the terms are squared
-      module _ (b' src' : List ℕ) (n' : ℕ) (S : ScaledAdded m b b' n now-l src k w n') (Q : Squared m src src' k w)
+      module _ (b' src' : List ℕ) (n' : ℕ) (S : ScaledAdded m b b' n now_l src k w n') (Q : Squared m src src' k w)
         where
           abbrev P : Poly
-          P = readTerms (w - 1) src 0 k
+          P = read_terms (w - 1) src 0 k
 
           abbrev D : Poly
-          D = readTerms (w - 1) b 0 n
+          D = read_terms (w - 1) b 0 n
 
           -- there is room for the rows behind it
-          more_room : n' + nonzeros (drop (j + 1) ls) * k ≤ oneIf c + nonzeros ls * k
+          more_room : n' + nonzeros (drop (j + 1) ls) * k ≤ one_if c + nonzeros ls * k
           more_room =
               let u : drop (j + 1) ls ≡ drop (suc j) ls = ap (λ (x : ℕ). drop x ls) (add-one j) in
               omega (
@@ -165,36 +165,36 @@ module _ (m c : ℕ) (ls : List ℕ) (src₀ : List ℕ) (k : ℕ) (t₀ : List 
                 room_split,
                 ap (λ (x : List ℕ). nonzeros x * k) u,
                 holds-count S,
-                unless-into F now-l P D,
-                ap (λ (x : ℕ). oneIf now-l * x) (read_length (w - 1) src 0 k),
+                unless-into F now_l P D,
+                ap (λ (x : ℕ). one_if now_l * x) (read_length (w - 1) src 0 k),
                 read_length (w - 1) b 0 n,
               )
 
           -- the terms are reduced
-          more-canon : Canon (w - 1) (readTerms (w - 1) b' 0 n')
+          more-canon : Canon (w - 1) (read_terms (w - 1) b' 0 n')
           more-canon =
-              let L = gf-laws h.asked.modulus in
+              let L = gf_laws h.asked.modulus in
               subst (Canon (w - 1)) (sym S.terms)
-              (into-canon F L (unlessZero now-l (scale F now-l [] P)) D (unless-raw F L now-l P h.terms) h.canon)
+              (into-canon F L (unless_zero now_l (scale F now_l [] P)) D (unless-raw F L now_l P h.terms) h.canon)
 
           -- what the coefficients behind it still add gives the whole map
-          more_left : normal F (linearRaw F (drop (j + 1) ls) (readTerms (w - 1) src' 0 k) ++ readTerms (w - 1) b' 0 n')
-              ≡ mapPoly F (w - 1) c ls (readTerms (w - 1) src₀ 0 k)
+          more_left : normal F (linear_raw F (drop (j + 1) ls) (read_terms (w - 1) src' 0 k) ++ read_terms (w - 1) b' 0 n')
+              ≡ map_poly F (w - 1) c ls (read_terms (w - 1) src₀ 0 k)
           more_left =
-              ap₂ (λ (x y : Poly). normal F (linearRaw F (drop (j + 1) ls) x ++ y)) Q.terms S.terms
+              ap₂ (λ (x y : Poly). normal F (linear_raw F (drop (j + 1) ls) x ++ y)) Q.terms S.terms
               ∙ ap (λ (x : ℕ).
-              normal F (linearRaw F (drop x ls) (square F P) ++ into F (unlessZero now-l (scale F now-l [] P)) D))
+              normal F (linear_raw F (drop x ls) (square F P) ++ into F (unless_zero now_l (scale F now_l [] P)) D))
               (add-one j)
-              ∙ map-step F (gf-laws h.asked.modulus) now-l (drop (suc j) ls) P D h.terms h.canon
-              ∙ sym (ap (λ (x : List ℕ). normal F (linearRaw F x P ++ D)) split) ∙ h.left
+              ∙ map-step F (gf_laws h.asked.modulus) now_l (drop (suc j) ls) P D h.terms h.canon
+              ∙ sym (ap (λ (x : List ℕ). normal F (linear_raw F x P ++ D)) split) ∙ h.left
 
       -- one coefficient more is done, and the terms are squared once more
       pub apply-more : (b' src' t' t'' : List ℕ) (n' : ℕ) → length t' ≡ length t → length t'' ≡ length t'
-          → ScaledAdded m b b' n now-l src k (length t) n' → Squared m src src' k (length t')
+          → ScaledAdded m b b' n now_l src k (length t) n' → Squared m src src' k (length t')
           → InApply m c ls b₀ src₀ k t₀ b' src' t'' n' (j + 1)
       apply-more b' src' t' t'' n' e e' s q =
-          let S : ScaledAdded m b b' n now-l src k w n' =
-          subst (λ (x : ℕ). ScaledAdded m b b' n now-l src k x n') h.spare s in
+          let S : ScaledAdded m b b' n now_l src k w n' =
+          subst (λ (x : ℕ). ScaledAdded m b b' n now_l src k x n') h.spare s in
           let Q : Squared m src src' k w = subst (Squared m src src' k) (e ∙ h.spare) q in
           record {
             asked = h.asked;
@@ -207,7 +207,7 @@ module _ (m c : ℕ) (ls : List ℕ) (src₀ : List ℕ) (k : ℕ) (t₀ : List 
             high = λ i g. S.high i (omega (arith, within)) ∙ h.high i g;
             room = more_room b' src' n' S Q;
             terms = subst (Raw (w - 1)) (sym Q.terms)
-                (square-raw F (gf-laws h.asked.modulus) (readTerms (w - 1) src 0 k) h.terms);
+                (square-raw F (gf_laws h.asked.modulus) (read_terms (w - 1) src 0 k) h.terms);
             canon = more-canon b' src' n' S Q;
             left = more_left b' src' n' S Q;
           }

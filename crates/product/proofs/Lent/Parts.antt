@@ -6,7 +6,7 @@ use native.Mathlib.Omega.{arith}
 use native.Mathlib.Nat.{zero-add}
 use lib.ListN.{length, get_or, take, drop, length-drop, length-append, get_or-append}
 use lib.Seq.{length-take-le, get_or-take, get_or-drop, get_or-append-add, drop-drop}
-use Rattle.buffer.specs.Buffer.{readTerms}
+use Rattle.buffer.specs.Buffer.{read_terms}
 use Rattle.buffer.proofs.Lent.Reads.{read-shift}
 
 -- the bytes `from` to `to`
@@ -23,9 +23,9 @@ module _ (b : List ℕ) (from to : ℕ) (h : from ≤ to) (f : to ≤ length b) 
   part_length = length-take-le (to - from) (drop from b) (omega (arith, length-drop from b))
 
   -- the terms of the part
-  pub part-read : (n m : ℕ) → m * suc n ≤ to - from → readTerms n (part b from to) 0 m ≡ readTerms n b from m
+  pub part-read : (n m : ℕ) → m * suc n ≤ to - from → read_terms n (part b from to) 0 m ≡ read_terms n b from m
   part-read n m l =
-      sym (ap (λ (x : ℕ). readTerms n b x m) (sym (zero-add from))
+      sym (ap (λ (x : ℕ). read_terms n b x m) (sym (zero-add from))
       ∙ read-shift n (part b from to) b 0 from m (omega (arith, part_length)) (omega arith) (λ i p q.
       let e : i + from ≡ from + i = omega arith in
       ap (λ (x : ℕ). get_or b x 0) e
@@ -67,8 +67,8 @@ module _ (b : List ℕ) (from to : ℕ) (h : from ≤ to) (f : to ≤ length b) 
         ∙ get_or-append-add (take from b) (x ++ drop (to - from) (drop from b)) i 0
 
     -- in the part stands what came back
-    pub returned-in : (i : ℕ) → i < to - from → get_or (returned b from to x) (i + from) 0 ≡ get_or x i 0
-    returned-in i l =
+    pub returned_in : (i : ℕ) → i < to - from → get_or (returned b from to x) (i + from) 0 ≡ get_or x i 0
+    returned_in i l =
         let e : i + from ≡ from + i = omega arith in
         ap (λ (y : ℕ). get_or (returned b from to x) y 0) e ∙ from_start i
         ∙ get_or-append x (drop (to - from) (drop from b)) 0 i (omega arith)
@@ -87,8 +87,8 @@ module _ (b : List ℕ) (from to : ℕ) (h : from ≤ to) (f : to ≤ length b) 
 
     -- the terms that came back
     pub returned-read : (n m : ℕ) → m * suc n ≤ to - from
-        → readTerms n (returned b from to x) from m ≡ readTerms n x 0 m
+        → read_terms n (returned b from to x) from m ≡ read_terms n x 0 m
     returned-read n m l =
-        ap (λ (y : ℕ). readTerms n (returned b from to x) y m) (sym (zero-add from))
+        ap (λ (y : ℕ). read_terms n (returned b from to x) y m) (sym (zero-add from))
         ∙ read-shift n x (returned b from to x) 0 from m (omega arith) (omega (arith, returned-size))
-        (λ i p q. returned-in i (omega arith))
+        (λ i p q. returned_in i (omega arith))

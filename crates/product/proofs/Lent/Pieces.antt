@@ -11,7 +11,7 @@ use Rattle.poly.specs.Poly.{Poly, into}
 use Rattle.poly.specs.Canon.{Coefs, Sorted, Nonzero}
 use Rattle.poly.proofs.Laws.Sum.{into-sorted, into-none, into-length}
 use Rattle.poly.proofs.Laws.Insert.{into-nonzero, into-normal}
-use Rattle.buffer.specs.Buffer.{readTerms}
+use Rattle.buffer.specs.Buffer.{read_terms}
 use Rattle.buffer.proofs.Lent.Reads.{read_same}
 use Rattle.buffer.proofs.Lent.Strides.{row_count}
 use Rattle.buffer.proofs.Lent.Adding.{holds-count}
@@ -19,7 +19,7 @@ use Rattle.product.specs.Product.{row_of, RowAsked, RowAdded, SumAsked, SumAdded
 use Rattle.product.specs.Merge.{MergeAsked, MergedAny}
 use Rattle.product.proofs.Lent.Parts.{part, part_length, returned, returned-size, returned-low, returned-read}
 use Rattle.product.proofs.Lent.Merged.{beyond}
-use Rattle.product.proofs.Lent.Products.{row-wide, rowOf-length}
+use Rattle.product.proofs.Lent.Products.{row-wide, row_of-length}
 
 module _ {b : List ℕ} {n : ℕ} {f src : List ℕ} {k w : ℕ} (h : SumAsked b n f src k w) where
   -- the part that is lent for the piece: from here
@@ -32,7 +32,7 @@ module _ {b : List ℕ} {n : ℕ} {f src : List ℕ} {k w : ℕ} (h : SumAsked b
 
   -- the terms that stood there
   abbrev there : Poly
-  there = readTerms (w - 1) b 0 n
+  there = read_terms (w - 1) b 0 n
 
   -- the numbers of terms fit
   pub piece-count : (n + k ≤ length b) × (n * w ≤ from) × (from ≤ length b)
@@ -61,8 +61,8 @@ module _ {b : List ℕ} {n : ℕ} {f src : List ℕ} {k w : ℕ} (h : SumAsked b
     lent_length = part_length b from to lies fits ∙ omega arith
 
     -- what the row of its own asks
-    pub piece-asks : RowAsked lent 0 f src k w
-    piece-asks = record {
+    pub piece_asks : RowAsked lent 0 f src k w
+    piece_asks = record {
       some = h.row.some;
       within = h.row.within;
       source = h.row.source;
@@ -73,7 +73,7 @@ module _ {b : List ℕ} {n : ℕ} {f src : List ℕ} {k w : ℕ} (h : SumAsked b
     module _ (m : ℕ) {x : List ℕ} {r : ℕ} (g : RowAdded m lent x 0 f src k w r) where
       -- the products
       abbrev products : Poly
-      products = row_of m f (readTerms (w - 1) src 0 k)
+      products = row_of m f (read_terms (w - 1) src 0 k)
 
       -- the buffer when the part came back
       abbrev now : List ℕ
@@ -85,29 +85,29 @@ module _ {b : List ℕ} {n : ℕ} {f src : List ℕ} {k w : ℕ} (h : SumAsked b
 
       -- no more terms than products
       piece-most : r ≤ k
-      piece-most = omega (arith, holds-count g, into-length (gf m) products [], rowOf-length m f src 0 k w)
+      piece-most = omega (arith, holds-count g, into-length (gf m) products [], row_of-length m f src 0 k w)
 
       -- a term's bytes
       width : suc (w - 1) ≡ w
       width = omega (arith, row-wide h.row)
 
       -- the terms of the piece
-      piece-terms : readTerms (w - 1) now from r ≡ into (gf m) products []
+      piece-terms : read_terms (w - 1) now from r ≡ into (gf m) products []
       piece-terms =
           let l : r * w ≤ k * w = mul-le-mul_right w piece-most in
           let u : r * suc (w - 1) ≡ r * w = ap (λ (y : ℕ). r * y) width in
           returned-read b from to lies fits x came (w - 1) r (omega arith) ∙ g.terms
 
       -- the terms of the sum, which stay
-      sum-terms : readTerms (w - 1) now 0 n ≡ there
+      sum-terms : read_terms (w - 1) now 0 n ≡ there
       sum-terms =
           let u : n * suc (w - 1) ≡ n * w = ap (λ (y : ℕ). n * y) width in
           read_same (w - 1) now b 0 n (returned-size b from to lies fits x came)
           (λ i p q. returned-low b from to lies fits x came i (omega (arith, piece-count.1)))
 
       -- what the merge asks
-      pub piece-merges : MergeAsked now n (n + k) r w
-      piece-merges = record {
+      pub piece_merges : MergeAsked now n (n + k) r w
+      piece_merges = record {
         some = row-wide h.row;
         room = omega (arith, piece-most);
         fits =

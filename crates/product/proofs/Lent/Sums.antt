@@ -7,15 +7,15 @@ use native.Mathlib.Nat.{le_refl, zero-mul, mul-le-mul_right, add-mul}
 use lib.ListN.{length, get_or, drop}
 use Rattle.field.specs.Laws.{gf}
 use Rattle.poly.specs.Poly.{Poly, into}
-use Rattle.poly.proofs.Laws.Sum.{into-append, into-length}
-use Rattle.poly.proofs.Laws.Insert.{scale-append}
-use Rattle.buffer.specs.Buffer.{readTerms}
+use Rattle.poly.proofs.Laws.Sum.{into_append, into-length}
+use Rattle.poly.proofs.Laws.Insert.{scale_append}
+use Rattle.buffer.specs.Buffer.{read_terms}
 use Rattle.buffer.specs.Insert.{Holds}
 use Rattle.buffer.proofs.Lent.Reads.{read_length, read-parts}
 use Rattle.buffer.proofs.Lent.Adding.{holds-count, holds-start}
 use Rattle.product.specs.Product.{row_of, SumAsked, SumAdded}
 use Rattle.product.proofs.Lent.Parts.{part, part_length, part-read}
-use Rattle.product.proofs.Lent.Products.{row-wide, rowOf-length, again-asks, holds_then}
+use Rattle.product.proofs.Lent.Products.{row-wide, row_of-length, again_asks, holds_then}
 
 -- the products of f and the terms of src from j on are added
 pub record InSum (m : ℕ) (b₀ : List ℕ) (r : ℕ) (f src : List ℕ) (k w : ℕ) (b t : List ℕ) (n j : ℕ) : Type 0 where
@@ -23,7 +23,7 @@ pub record InSum (m : ℕ) (b₀ : List ℕ) (r : ℕ) (f src : List ℕ) (k w :
   pub most : j ≤ k
   pub spare : length t ≡ w
   pub holds : Holds b₀ b w (length b₀) n
-      (into (gf m) (row_of m f (readTerms (w - 1) src (j * w) (k - j))) (readTerms (w - 1) b₀ 0 r))
+      (into (gf m) (row_of m f (read_terms (w - 1) src (j * w) (k - j))) (read_terms (w - 1) b₀ 0 r))
 
 module _ {m : ℕ} {b₀ : List ℕ} {r : ℕ} {f src : List ℕ} {k : ℕ} where
   -- at first nothing is added
@@ -36,19 +36,19 @@ module _ {m : ℕ} {b₀ : List ℕ} {r : ℕ} {f src : List ℕ} {k : ℕ} wher
         most = le_refl k;
         spare = refl;
         holds =
-            subst (λ (x : ℕ). Holds b₀ b₀ w (length b₀) r (into (gf m) (row_of m f (readTerms (w - 1) src (k * w) x))
-            (readTerms (w - 1) b₀ 0 r))) z
+            subst (λ (x : ℕ). Holds b₀ b₀ w (length b₀) r (into (gf m) (row_of m f (read_terms (w - 1) src (k * w) x))
+            (read_terms (w - 1) b₀ 0 r))) z
             (holds-start b₀ w (length b₀) r);
       }
 
   module _ {w : ℕ} {b t : List ℕ} {n j : ℕ} (h : InSum m b₀ r f src k w b t n j) where
     -- the terms that stood there
     abbrev there : Poly
-    there = readTerms (w - 1) b₀ 0 r
+    there = read_terms (w - 1) b₀ 0 r
 
     -- the terms of src from i on
     abbrev rest : ℕ → Poly
-    rest i = readTerms (w - 1) src (i * w) (k - i)
+    rest i = read_terms (w - 1) src (i * w) (k - i)
 
     -- at last every product is
     pub sum_done : j ≡ 0 → SumAdded m b₀ b r f src k w n
@@ -56,7 +56,7 @@ module _ {m : ℕ} {b₀ : List ℕ} {r : ℕ} {f src : List ℕ} {k : ℕ} wher
         let y : j * w ≡ 0 = ap (λ (x : ℕ). x * w) z ∙ zero-mul w in
         let x : k - j ≡ k = omega arith in
         subst (λ (p : Poly). Holds b₀ b w (length b₀) n (into (gf m) (row_of m f p) there))
-        (ap₂ (λ (u v : ℕ). readTerms (w - 1) src u v) y x) h.holds
+        (ap₂ (λ (u v : ℕ). read_terms (w - 1) src u v) y x) h.holds
 
     -- no more terms than stood there and were added
     count : n ≤ r + (k - j)
@@ -65,7 +65,7 @@ module _ {m : ℕ} {b₀ : List ℕ} {r : ℕ} {f src : List ℕ} {k : ℕ} wher
           arith,
           holds-count h.holds,
           into-length (gf m) (row_of m f (rest j)) there,
-          rowOf-length m f src (j * w) (k - j) w,
+          row_of-length m f src (j * w) (k - j) w,
           read_length (w - 1) b₀ 0 r,
         )
 
@@ -101,24 +101,24 @@ module _ {m : ℕ} {b₀ : List ℕ} {r : ℕ} {f src : List ℕ} {k : ℕ} wher
       piece = part src at to
 
       -- what it asks
-      pub sum-asks : SumAsked b n f piece d (length t)
-      sum-asks =
+      pub sum_asks : SumAsked b n f piece d (length t)
+      sum_asks =
           let a = h.asked.row in
           let g : n + d ≤ r + k = omega (arith, count, h.most) in
-          again-asks (gf m) (row_of m f (rest j)) there h.holds a.sorted h.asked.nonzero t f piece d h.spare
+          again_asks (gf m) (row_of m f (rest j)) there h.holds a.sorted h.asked.nonzero t f piece d h.spare
           a.some a.within (omega (arith, part_length src at to lies sum-places.1))
           (omega (arith, mul-le-mul_right w g, a.room, h.holds.size))
 
       -- its terms and those added before
-      piece-rest : readTerms (w - 1) piece 0 d ++ rest j ≡ rest (j - d)
+      piece-rest : read_terms (w - 1) piece 0 d ++ rest j ≡ rest (j - d)
       piece-rest =
           let s : suc (w - 1) ≡ w = omega (arith, row-wide h.asked.row) in
           let u : d * suc (w - 1) ≡ d * w = ap (λ (x : ℕ). d * x) s in
           let v : at + d * suc (w - 1) ≡ j * w = omega (arith, sum-places.0) in
           let z : d + (k - j) ≡ k - (j - d) = omega (arith, h.most) in
           ap₂ (λ (x y : Poly). x ++ y) (part-read src at to lies sum-places.1 (w - 1) d (omega arith))
-          (ap (λ (x : ℕ). readTerms (w - 1) src x (k - j)) (sym v))
-          ∙ sym (read-parts (w - 1) src at d (k - j)) ∙ ap (readTerms (w - 1) src at) z
+          (ap (λ (x : ℕ). read_terms (w - 1) src x (k - j)) (sym v))
+          ∙ sym (read-parts (w - 1) src at d (k - j)) ∙ ap (read_terms (w - 1) src at) z
 
       -- one piece more is added
       pub sum_more : {b' t' : List ℕ} {n' : ℕ} → length t' ≡ length t → SumAdded m b b' n f piece d (length t) n'
@@ -126,15 +126,15 @@ module _ {m : ℕ} {b₀ : List ℕ} {r : ℕ} {f src : List ℕ} {k : ℕ} wher
       sum_more {b'} {t'} {n'} s g =
           let x : SumAdded m b b' n f piece d w n' =
           subst (λ (z : ℕ). SumAdded m b b' n f piece d z n') h.spare g in
-          let p : Poly = readTerms (w - 1) piece 0 d in
+          let p : Poly = read_terms (w - 1) piece 0 d in
           record {
             asked = h.asked;
             most = omega (arith, h.most);
             spare = s ∙ h.spare;
             holds = subst (Holds b₀ b' w (length b₀) n')
-                (sym (into-append (gf m) (row_of m f p) (row_of m f (rest j)) there)
+                (sym (into_append (gf m) (row_of m f p) (row_of m f (rest j)) there)
                 ∙ ap (λ (p : Poly). into (gf m) p there)
-                (sym (scale-append (gf m) (get_or f 0 0) (drop 1 f) p (rest j)) ∙ ap (row_of m f) piece-rest))
+                (sym (scale_append (gf m) (get_or f 0 0) (drop 1 f) p (rest j)) ∙ ap (row_of m f) piece-rest))
                 (holds_then (gf m) (row_of m f (rest j)) there h.holds (row_of m f p)
                 (omega (arith, h.holds.size)) x);
           }

@@ -38,7 +38,7 @@ use denote.Triple.Table.{cited}
 use Rattle.reader.specs.declared.reader.Reader.{Reader}
 use Rattle.reader.proofs.Laws.Held.{B, mach, Typed, Own, fields, passed, reader, typed, apart}
 use Rattle.reader.proofs.Laws.Says.{shape, saying, Saying, to, answers}
-use Rattle.reader.proofs.Laws.Taken.{bytes, taking, ofOne, Entry, Post, leaves, walked_from}
+use Rattle.reader.proofs.Laws.Taken.{bytes, taking, of_one, Entry, Post, leaves, walked_from}
 use Rattle.reader.proofs.reader.Reader.TheLaws as T'
 
 -- ---- the call
@@ -49,20 +49,20 @@ parts = plain bytes.row ∷ plain (λ _. usize) ∷ plain (λ _. usize) ∷ []
 
 module _ (R : RattleType) (Found : Reader → R.Denot → Type 0) where
   -- Found is said of the reader that they make
-  abbrev ofParts : (κs : Lfts 1) → Denots (types_at {n = 1} parts κs) → R.Denot → Type 0
-  ofParts κs a r = Found (record { text = a.0; at = a.1.0; line = a.1.1.0 }) r
+  abbrev of_parts : (κs : Lfts 1) → Denots (types_at {n = 1} parts κs) → R.Denot → Type 0
+  of_parts κs a r = Found (record { text = a.0; at = a.1.0; line = a.1.1.0 }) r
 
   -- the contract of a function on a text and a place
   abbrev pub Callee : {M : Type 1} {𝓤 : Ura M} (𝓛 : Logic 𝓤) → Contract 𝓤
-  Callee = Saying parts (yes, (yes, (yes, tt))) (λ _. R) ofParts
+  Callee = Saying parts (yes, (yes, (yes, tt))) (λ _. R) of_parts
 
 -- field k of a struct that lies in a local, entry n of what there is, is read
-pub field-of : {M : Type 1} {𝓤 : Ura M} {𝓛 : Logic 𝓤} {K : Type 0} {Γ : List (Item 𝓤)}
+pub field_of_lem : {M : Type 1} {𝓤 : Ura M} {𝓛 : Logic 𝓤} {K : Type 0} {Γ : List (Item 𝓤)}
     {E : Env 𝓤 𝓛.H} → K → (n : ℕ) {i k o : ℕ} {τ : Ty} {s : Share} {v : Val} {back : Val → Item 𝓤}
     → field_of (spot_of 𝓤 𝓛.H E i).0 k ≡ some (τ, o)
     → Part K 𝓛 (nth 𝓛 n Γ) s τ (spot_of 𝓤 𝓛.H E i).1 ((spot_of 𝓤 𝓛.H E i).2 + o) v back
     → Rv K 𝓛 Γ E (rv_opd (copy (place i (field k ∷ [])))) v
-field-of t n is_field lies = of_opd t (load t (from t (fld t is_field (stop t))) (look_in t n lies))
+field_of_lem t n is_field lies = of_opd t (load t (from t (fld t is_field (stop t))) (look_in t n lies))
 
 module _ (R : RattleType) (Found : Reader → R.Denot → Type 0) {M : Type 1} {𝓤 : Ura M} {𝓛 : Logic 𝓤}
     {K : Type 0} {Γ : List (Item 𝓤)} {E : Env 𝓤 𝓛.H} {C : Calls 𝓤 𝓛.H} {Λ : Loops 𝓤 𝓛.H}
@@ -71,19 +71,19 @@ module _ (R : RattleType) (Found : Reader → R.Denot → Type 0) {M : Type 1} {
   -- what the reader owns. What it owns is had twice: one copy is kept, the other goes to the call.
   open 𝓛 use {H}
 
-  pub calls-on : K → FmC 𝓤 H 𝓛.laws C → {f : Name} → Triple 𝓤 (C f) (Callee R Found 𝓛)
+  pub calls_on : K → FmC 𝓤 H 𝓛.laws C → {f : Name} → Triple 𝓤 (C f) (Callee R Found 𝓛)
       → (κ : Lft) (q : Share) (d : Reader) → Typed d → {xs : List Operand} {to-place : Place} {rest : Body}
       → Opds K 𝓛 (raw ((Callee R Found 𝓛).pre
-      (to parts (yes, (yes, (yes, tt))) (λ _. R) (ofParts R Found) 𝓤 𝓛 κ q (fields κ d) (passed d)))
+      (to parts (yes, (yes, (yes, tt))) (λ _. R) (of_parts R Found) 𝓤 𝓛 κ q (fields κ d) (passed d)))
       ∷ ‵ (Own κ d) ∷ Γ) E xs (flat (types_at {n = 1} parts (κ, tt)) (passed d))
       → ((u : Val) (r : R.Denot) → Found d r → Is R r (u ∷ [])
       → Seq K 𝓛 (‵ (R.own_val r (u ∷ [])) ∷ (‵ (flft κ q) ⊛ ‵ ftrue) ∷ ‵ (Own κ d) ∷ Γ)
       (lands C Λ E to-place u rest p))
       → Seq K 𝓛 (raw (Entry reader 𝓛 κ q d) ∷ Γ) (runs C Λ E (seq (call f xs to-place) rest) p)
-  calls-on t fm known κ q d wt opds go =
+  calls_on t fm known κ q d wt opds go =
       use1 𝓛 (raw (on_entry 𝓛 (shape parts (yes, (yes, (yes, tt))) (λ _. R)).signature (κ, tt) (q, tt) (fields κ d)
       (passed d)) ⊛ ‵ (Own κ d)) (apart 𝓛 κ q d wt.1.1.0.fits wt.1.1.1.0.fits) $ split t $
-      answers parts (yes, (yes, (yes, tt))) (λ _. R) (ofParts R Found) t fm known κ q (fields κ d) (passed d) opds go
+      answers parts (yes, (yes, (yes, tt))) (λ _. R) (of_parts R Found) t fm known κ q (fields κ d) (passed d) opds go
 
 -- ---- a function that returns the answer of the call
 
@@ -116,10 +116,10 @@ module _ (R : RattleType) (τ : Ty) (f : Name) (Found : Reader → R.Denot → T
       qed 𝓛 (raw (Entry reader 𝓛 κ q d) ∷ []) ∵ enter ! C Λ (passing τ f) (mach d ∷ []) _ $
       alloc1 ! (λ l₀. alloc1 ! (λ l₁. alloc1 ! (λ l₂. alloc1 ! (λ l₃. alloc1 ! (λ l₄. alloc0 ! $
       params1 ! $ pass1 ! (init ! 6 refl wt) $ pass0 ! $
-      assigns ! (field-of ! 6 refl (sub ! 0 refl (whole !))) (from ! (stop !)) (init ! 4 refl (tt, wt.1.0)) $
-      assigns ! (field-of ! 6 refl (sub ! 1 refl (whole !))) (from ! (stop !)) (init ! 2 refl (tt, wt.1.1.0)) $
-      assigns ! (field-of ! 6 refl (sub ! 2 refl (whole !))) (from ! (stop !)) (init ! 0 refl (tt, wt.1.1.1.0)) $
-      move ! (10 ∷ []) $ calls-on R Found ! fm known κ q d wt (and_then ! (load ! (from ! (stop !)) (look ! 6 refl))
+      assigns ! (field_of_lem ! 6 refl (sub ! 0 refl (whole !))) (from ! (stop !)) (init ! 4 refl (tt, wt.1.0)) $
+      assigns ! (field_of_lem ! 6 refl (sub ! 1 refl (whole !))) (from ! (stop !)) (init ! 2 refl (tt, wt.1.1.0)) $
+      assigns ! (field_of_lem ! 6 refl (sub ! 2 refl (whole !))) (from ! (stop !)) (init ! 0 refl (tt, wt.1.1.1.0)) $
+      move ! (10 ∷ []) $ calls_on R Found ! fm known κ q d wt (and_then ! (load ! (from ! (stop !)) (look ! 6 refl))
       (and_then ! (load ! (from ! (stop !)) (look ! 4 refl))
       (and_then ! (load ! (from ! (stop !)) (look ! 2 refl)) (no_more !)))) (λ u r e is.
       -- [the result; the token; what the reader owns; _4; …; _3; …; _2; …; _1; …; room for _0; …]
@@ -134,7 +134,7 @@ module _ (R : RattleType) (τ : Ty) (f : Name) (Found : Reader → R.Denot → T
       → Closed 𝓤 H (tables 𝓤 H 𝓜 𝓡 env).C (tables 𝓤 H 𝓜 𝓡 env).Λ k (passing τ f)
       → (callee : Routine) → env f ≡ callee → Triple 𝓤 (𝓡.run callee) (Callee R Found 𝓛)
       → Meets 𝓛 (taking reader (λ _. R)).signature (𝓡.run (env k)) (closing 𝓛
-      (taking reader (λ _. R)) (saying (plain B ∷ []) (yes, tt) (λ _. R) (ofOne reader (λ _. R) (λ _. Found)) 𝓤))
+      (taking reader (λ _. R)) (saying (plain B ∷ []) (yes, tt) (λ _. R) (of_one reader (λ _. R) (λ _. Found)) 𝓤))
   passed_on 𝓜 𝓡 env k closed callee is_f met =
       walked_from reader (λ _. R) (λ _. Found) 𝓛 𝓜 𝓡 env k (passing τ f) closed (λ fm κ q d is.
       walk (tables 𝓤 H 𝓜 𝓡 env).C (tables 𝓤 H 𝓜 𝓡 env).Λ

@@ -91,14 +91,14 @@ module _ {M : Type 1} {𝓤 : Ura M} (𝓛 : Logic 𝓤) (κ : Lft) (q : Share) 
 
 module _ (P : Param) (F : Lfts 1 → RattleType) (Says : (κs : Lfts 1) → (P.row κs).Denot → (F κs).Denot → Type 0) where
   -- what is said of the one argument
-  abbrev pub ofOne : (κs : Lfts 1) → Denots (types_at {n = 1} (plain P.row ∷ []) κs) → (F κs).Denot → Type 0
-  ofOne κs a r = Says κs a.0 r
+  abbrev pub of_one : (κs : Lfts 1) → Denots (types_at {n = 1} (plain P.row ∷ []) κs) → (F κs).Denot → Type 0
+  of_one κs a r = Says κs a.0 r
 
   module _ {M : Type 1} {𝓤 : Ura M} (𝓛 : Logic 𝓤) where
     -- where a walk from x ends
     abbrev pub Post : (κ : Lft) → Share → (P.row (κ, tt)).Denot → Val → SProp 𝓤
     Post κ q x =
-        (walk_of 𝓛 (taking P F) (stayed P F) (saying (plain P.row ∷ []) (yes, tt) F ofOne 𝓤)).post
+        (walk_of 𝓛 (taking P F) (stayed P F) (saying (plain P.row ∷ []) (yes, tt) F of_one 𝓤)).post
         (((κ, tt), (q, tt), tt, (x, tt), (P.val (κ, tt) x ∷ [], tt)), tt)
 
     -- it ends with a result of which Says is said, the token, and what x owns
@@ -109,7 +109,7 @@ module _ (P : Param) (F : Lfts 1 → RattleType) (Says : (κs : Lfts 1) → (P.r
     leaves κ q x r u e =
         qed 𝓛 (‵ ((F (κ, tt)).own_val r (u ∷ [])) ∷ (‵ (flft κ q) ⊛ ‵ ftrue)
         ∷ ‵ ((P.row (κ, tt)).own_val x (P.val (κ, tt) x ∷ [])) ∷ []) ∵
-        suffices ! _ (ends_at 𝓛 (taking P F) (stayed P F) (saying (plain P.row ∷ []) (yes, tt) F ofOne 𝓤)
+        suffices ! _ (ends_at 𝓛 (taking P F) (stayed P F) (saying (plain P.row ∷ []) (yes, tt) F of_one 𝓤)
         (((κ, tt), (q, tt), tt, (x, tt), (P.val (κ, tt) x ∷ [], tt)), tt) u r (P.last (κ, tt) x, tt) (tt, tt)) $
         says ! e $ move ! (1 ∷ []) $ frame ! $ nothing ! $ move ! (2 ∷ 0 ∷ []) $ fjoin ! $ frame ! $ done !
 
@@ -123,11 +123,11 @@ module _ (P : Param) (F : Lfts 1 → RattleType) (Says : (κs : Lfts 1) → (P.r
       (WpFn 𝓤 𝓛.H (tables 𝓤 𝓛.H 𝓜 𝓡 env).C (tables 𝓤 𝓛.H 𝓜 𝓡 env).Λ code (P.val (κ, tt) x ∷ [])
       (Post 𝓛 κ q x)))
       → Meets 𝓛 (taking P F).signature (𝓡.run (env k))
-      (closing 𝓛 (taking P F) (saying (plain P.row ∷ []) (yes, tt) F ofOne 𝓤))
+      (closing 𝓛 (taking P F) (saying (plain P.row ∷ []) (yes, tt) F of_one 𝓤))
   unfolding tables_of
   walked_from {𝓤 = 𝓤} 𝓛 𝓜 𝓡 env k code closed walk =
       let 𝓣 = tables_of 𝓤 𝓛.H 𝓜 (tables 𝓤 𝓛.H 𝓜 𝓡 env) in
-      let told = saying (plain P.row ∷ []) (yes, tt) F ofOne 𝓤 in
+      let told = saying (plain P.row ∷ []) (yes, tt) F of_one 𝓤 in
       let run = WpFn 𝓤 𝓛.H (tables 𝓤 𝓛.H 𝓜 𝓡 env).C (tables 𝓤 𝓛.H 𝓜 𝓡 env).Λ code in
       entered 𝓤 𝓛.H _ (tables 𝓤 𝓛.H 𝓜 𝓡 env).C (tables 𝓤 𝓛.H 𝓜 𝓡 env).Λ k code closed
       (walk_Meets 𝓛 (taking P F) (stayed P F)

@@ -18,26 +18,26 @@ use Rattle.tokens.specs.Token.{Name}
 use Rattle.grammar.specs.Formula.{Formula}
 use Rattle.grammar.specs.Record.{Form, set, xor, mul, app, rand, Record, shares, origin, assign, letting}
 use Rattle.grammar.specs.Record.{masked}
-use Rattle.rules.specs.Order.{at_start, inMasked, mayStand, stageAfter}
+use Rattle.rules.specs.Order.{at_start, in_masked, may_stand, stage_after}
 use Rattle.rules.specs.State.{State, start}
-use Rattle.rules.specs.Grown.{atStage, withShares, withMap, withInput}
-use Rattle.rules.specs.Stated.{withOrigin, withMasked}
-use Rattle.rules.specs.Stated.{withOriginAll, withMaskedAll}
-use Rattle.rules.specs.Grown.{withResult, withOutputs}
+use Rattle.rules.specs.Grown.{at_stage, with_shares, with_map, with_input}
+use Rattle.rules.specs.Stated.{with_origin, with_masked}
+use Rattle.rules.specs.Stated.{with_origin_all, with_masked_all}
+use Rattle.rules.specs.Grown.{with_result, with_outputs}
 use Rattle.rules.specs.Scope.{drawn}
-use Rattle.rules.specs.Faults.{block, statementCount, exceeds}
-use Rattle.rules.specs.Limits.{mostVariables, mostInputs, mostStatements}
-use Rattle.rules.specs.Scope.{opIn}
+use Rattle.rules.specs.Faults.{block, statement_count, exceeds}
+use Rattle.rules.specs.Limits.{most_variables, most_inputs, most_statements}
+use Rattle.rules.specs.Scope.{op_in}
 use Rattle.rules.specs.Added.{added}
-use Rattle.rules.specs.Read.{routine, readText}
+use Rattle.rules.specs.Read.{routine, read_text}
 use Rattle.rules.specs.Formed.{Each, FormedOp, FormedStatement, FormedMap, Formed}
 use Rattle.rules.proofs.Laws.Keeping.{Accepts, read_keeps}
-use Rattle.rules.proofs.Laws.Letting.{each_append, operand-formed, let-formed}
+use Rattle.rules.proofs.Laws.Letting.{each_append, operand-formed, let_formed}
 use Rattle.rules.proofs.Laws.Stating.{stated}
-use Rattle.tokens.proofs.Laws.Flags.{true-false, or-false}
+use Rattle.tokens.proofs.Laws.Flags.{true-false, or_false}
 use Rattle.grammar.proofs.Laws.Holding.{FormedTerm, FormedFormula}
-use Rattle.grammar.proofs.Laws.Fits.{Fits, fit-shares, fit-map, fit-input, fit-origin, fit-set, fit-xor, fit-mul}
-use Rattle.grammar.proofs.Laws.Fits.{fit-app, fit-let, fit-rand, fit-result, fit-masked, fit-output}
+use Rattle.grammar.proofs.Laws.Fits.{Fits, fit_shares, fit_map, fit_input, fit_origin, fit_set, fit_xor, fit_mul}
+use Rattle.grammar.proofs.Laws.Fits.{fit_app, fit_let, fit_rand, fit_result, fit_masked, fit_output}
 
 -- ---- what every line keeps
 
@@ -46,7 +46,7 @@ record Kept (s : State) : Type 0 where
   origin : Each FormedStatement s.origin.statements
   masked : Each FormedStatement s.masked.statements
   fits : s.inputs * s.shares ≤ s.variables
-  room : s.variables ≤ mostVariables
+  room : s.variables ≤ most_variables
   begun : s.stage ≡ at_start → s.inputs ≡ 0
 
 start-kept : Kept start
@@ -54,17 +54,17 @@ unfolding start
 start-kept = record { maps = tt; origin = tt; masked = tt; fits = omega arith; room = omega arith; begun = λ e. refl }
 
 -- no record leads back to the start
-moves : (w : Word) (stage : ℕ) → mayStand w stage ≡ true → stageAfter w stage ≡ at_start → ⊥
+moves : (w : Word) (stage : ℕ) → may_stand w stage ≡ true → stage_after w stage ≡ at_start → ⊥
 moves Shares stage m e = omega arith
 moves Map stage m e = omega arith
 moves Input stage m e = omega arith
 moves Origin stage m e = omega arith
-moves Set stage m e = true-false (sym (subst (λ (k : ℕ). mayStand Set k ≡ true) e m))
-moves Xor stage m e = true-false (sym (subst (λ (k : ℕ). mayStand Xor k ≡ true) e m))
-moves Mul stage m e = true-false (sym (subst (λ (k : ℕ). mayStand Mul k ≡ true) e m))
-moves App stage m e = true-false (sym (subst (λ (k : ℕ). mayStand App k ≡ true) e m))
-moves Let stage m e = true-false (sym (subst (λ (k : ℕ). mayStand Let k ≡ true) e m))
-moves Rand stage m e = true-false (sym (subst (λ (k : ℕ). mayStand Rand k ≡ true) e m))
+moves Set stage m e = true-false (sym (subst (λ (k : ℕ). may_stand Set k ≡ true) e m))
+moves Xor stage m e = true-false (sym (subst (λ (k : ℕ). may_stand Xor k ≡ true) e m))
+moves Mul stage m e = true-false (sym (subst (λ (k : ℕ). may_stand Mul k ≡ true) e m))
+moves App stage m e = true-false (sym (subst (λ (k : ℕ). may_stand App k ≡ true) e m))
+moves Let stage m e = true-false (sym (subst (λ (k : ℕ). may_stand Let k ≡ true) e m))
+moves Rand stage m e = true-false (sym (subst (λ (k : ℕ). may_stand Rand k ≡ true) e m))
 moves Result stage m e = omega arith
 moves Masked stage m e = omega arith
 moves Output stage m e = omega arith
@@ -78,8 +78,8 @@ FormedForm (mul a b) = FormedTerm a × FormedTerm b
 FormedForm (app f a) = FormedTerm a
 FormedForm rand = Unit {0}
 
-op-formed : (ms maps : List Name) (v : ℕ) (f : Form) → FormedForm f → FormedOp (opIn ms maps v f)
-unfolding opIn
+op-formed : (ms maps : List Name) (v : ℕ) (f : Form) → FormedForm f → FormedOp (op_in ms maps v f)
+unfolding op_in
 op-formed ms maps v (set a) h = operand-formed ms a h
 op-formed ms maps v (xor a b) h = (operand-formed ms a h.0, operand-formed ms b h.1)
 op-formed ms maps v (mul a b) h = (operand-formed ms a h.0, operand-formed ms b h.1)
@@ -88,8 +88,8 @@ op-formed ms maps v rand h = tt
 
 module _ (s : State) (K : Kept s) (n stage : ℕ) (moved : stage ≡ at_start → ⊥) where
   -- nothing but the stage, the result and the outputs is new
-  same_kept : (p : ℕ) (os : List ℕ) → Kept (atStage stage (withOutputs os (withResult p s)))
-  unfolding atStage withOutputs withResult
+  same_kept : (p : ℕ) (os : List ℕ) → Kept (at_stage stage (with_outputs os (with_result p s)))
+  unfolding at_stage with_outputs with_result
   same_kept p os = record {
     maps = K.maps;
     origin = K.origin;
@@ -100,9 +100,9 @@ module _ (s : State) (K : Kept s) (n stage : ℕ) (moved : stage ≡ at_start �
   }
 
   -- more statements, whose constants are bytes
-  stated-kept : (b : Bool) (ns : List Name) (sts : List Statement) (v : ℕ) → s.variables ≤ v → v ≤ mostVariables
-      → Each FormedStatement sts → Kept (atStage stage (stated b ns sts v s))
-  unfolding atStage
+  stated-kept : (b : Bool) (ns : List Name) (sts : List Statement) (v : ℕ) → s.variables ≤ v → v ≤ most_variables
+      → Each FormedStatement sts → Kept (at_stage stage (stated b ns sts v s))
+  unfolding at_stage
   stated-kept true ns sts v l u h = record {
     maps = K.maps;
     origin = K.origin;
@@ -121,27 +121,27 @@ module _ (s : State) (K : Kept s) (n stage : ℕ) (moved : stage ≡ at_start �
   }
 
   assign-kept : (x : Name) (f : Form) → FormedForm f → exceeds s (assign x f) ≡ false
-      → Kept (atStage stage (added n (assign x f) s))
-  unfolding added exceeds withMasked withOrigin
+      → Kept (at_stage stage (added n (assign x f) s))
+  unfolding added exceeds with_masked with_origin
   assign-kept x f h e =
-      stated-kept (eqb s.stage inMasked) (x ∷ []) _ (s.variables + drawn f) (omega arith)
-      (ltb-false mostVariables (s.variables + drawn f)
-      (or-false (ltb mostStatements (statementCount s + 1)) (ltb mostVariables (s.variables + drawn f)) e).1)
-      (op-formed (block s).names s.mapNames s.variables f h, tt)
+      stated-kept (eqb s.stage in_masked) (x ∷ []) _ (s.variables + drawn f) (omega arith)
+      (ltb-false most_variables (s.variables + drawn f)
+      (or_false (ltb most_statements (statement_count s + 1)) (ltb most_variables (s.variables + drawn f)) e).1)
+      (op-formed (block s).names s.map_names s.variables f h, tt)
 
-  let-kept : (x : Name) (f : Formula) → FormedFormula f → Kept (atStage stage (added n (letting x f) s))
-  unfolding added withMaskedAll withOriginAll
-  let-kept x f h =
+  let_kept : (x : Name) (f : Formula) → FormedFormula f → Kept (at_stage stage (added n (letting x f) s))
+  unfolding added with_masked_all with_origin_all
+  let_kept x f h =
       let ms : List Name = (block s).names in
-      stated-kept (eqb s.stage inMasked) _ _ s.variables (omega arith) K.room
-      (let-formed ms s.mapNames (length ms) n f h [] tt)
+      stated-kept (eqb s.stage in_masked) _ _ s.variables (omega arith) K.room
+      (let_formed ms s.map_names (length ms) n f h [] tt)
 
 -- a record that may stand and exceeds nothing
-added-kept : (s : State) → Kept s → (n : ℕ) {w : Word} {r : Record} → Fits w r → mayStand w s.stage ≡ true
+added-kept : (s : State) → Kept s → (n : ℕ) {w : Word} {r : Record} → Fits w r → may_stand w s.stage ≡ true
     → exceeds s r ≡ false
-    → Kept (atStage (stageAfter w s.stage) (added n r s))
-unfolding atStage added exceeds withShares withMap withInput withResult withOutputs
-added-kept s K n (fit-shares {k = k} low high) m e =
+    → Kept (at_stage (stage_after w s.stage) (added n r s))
+unfolding at_stage added exceeds with_shares with_map with_input with_result with_outputs
+added-kept s K n (fit_shares {k = k} low high) m e =
     let none : s.inputs ≡ 0 = K.begun (eqb-start s.stage m) in
     record {
       maps = K.maps;
@@ -154,7 +154,7 @@ added-kept s K n (fit-shares {k = k} low high) m e =
   where
     eqb-start : (stage : ℕ) → eqb stage at_start ≡ true → stage ≡ at_start
     eqb-start stage t = borrow.Author.Tests.eqb-true stage at_start t
-added-kept s K n (fit-map {c = c} {l = l} h e8 hl) m e = record {
+added-kept s K n (fit_map {c = c} {l = l} h e8 hl) m e = record {
   maps = each_append FormedMap s.maps (record { constant = c; columns = l } ∷ []) K.maps
       (record { constant = h; eight = e8; columns = hl }, tt);
   origin = K.origin;
@@ -163,9 +163,9 @@ added-kept s K n (fit-map {c = c} {l = l} h e8 hl) m e = record {
   room = K.room;
   begun = λ e. omega arith;
 }
-added-kept s K n (fit-input {n = x}) m e =
-    let bound = ltb-false mostVariables (s.variables + s.shares)
-    (or-false (ltb mostInputs (s.inputs + 1)) (ltb mostVariables (s.variables + s.shares)) e).1 in
+added-kept s K n (fit_input {n = x}) m e =
+    let bound = ltb-false most_variables (s.variables + s.shares)
+    (or_false (ltb most_inputs (s.inputs + 1)) (ltb most_variables (s.variables + s.shares)) e).1 in
     record {
       maps = K.maps;
       origin = K.origin;
@@ -174,26 +174,26 @@ added-kept s K n (fit-input {n = x}) m e =
       room = bound;
       begun = λ e. omega arith;
     }
-added-kept s K n fit-origin m e =
-    same_kept s K n (stageAfter Origin s.stage) (moves Origin s.stage m) s.result s.outputs
-added-kept s K n (fit-set {n = x} {a = a} h) m e = assign-kept s K n s.stage (moves Set s.stage m) x (set a) h e
-added-kept s K n (fit-xor {n = x} {a = a} {b = b} h k) m e = assign-kept s K n s.stage (moves Xor s.stage m) x
+added-kept s K n fit_origin m e =
+    same_kept s K n (stage_after Origin s.stage) (moves Origin s.stage m) s.result s.outputs
+added-kept s K n (fit_set {n = x} {a = a} h) m e = assign-kept s K n s.stage (moves Set s.stage m) x (set a) h e
+added-kept s K n (fit_xor {n = x} {a = a} {b = b} h k) m e = assign-kept s K n s.stage (moves Xor s.stage m) x
     (xor a b) (h, k) e
-added-kept s K n (fit-mul {n = x} {a = a} {b = b} h k) m e = assign-kept s K n s.stage (moves Mul s.stage m) x
+added-kept s K n (fit_mul {n = x} {a = a} {b = b} h k) m e = assign-kept s K n s.stage (moves Mul s.stage m) x
     (mul a b) (h, k) e
-added-kept s K n (fit-app {n = x} {f = f} {a = a} h) m e = assign-kept s K n s.stage (moves App s.stage m) x
+added-kept s K n (fit_app {n = x} {f = f} {a = a} h) m e = assign-kept s K n s.stage (moves App s.stage m) x
     (app f a) h e
-added-kept s K n (fit-let {n = x} {f = f} h) m e = let-kept s K n s.stage (moves Let s.stage m) x f h
-added-kept s K n (fit-rand {n = x}) m e = assign-kept s K n s.stage (moves Rand s.stage m) x rand tt e
-added-kept s K n fit-result m e =
-    same_kept s K n (stageAfter Result s.stage) (moves Result s.stage m) _ s.outputs
-added-kept s K n fit-masked m e =
-    same_kept s K n (stageAfter Masked s.stage) (moves Masked s.stage m) s.result s.outputs
-added-kept s K n fit-output m e =
-    same_kept s K n (stageAfter Output s.stage) (moves Output s.stage m) s.result _
+added-kept s K n (fit_let {n = x} {f = f} h) m e = let_kept s K n s.stage (moves Let s.stage m) x f h
+added-kept s K n (fit_rand {n = x}) m e = assign-kept s K n s.stage (moves Rand s.stage m) x rand tt e
+added-kept s K n fit_result m e =
+    same_kept s K n (stage_after Result s.stage) (moves Result s.stage m) _ s.outputs
+added-kept s K n fit_masked m e =
+    same_kept s K n (stage_after Masked s.stage) (moves Masked s.stage m) s.result s.outputs
+added-kept s K n fit_output m e =
+    same_kept s K n (stage_after Output s.stage) (moves Output s.stage m) s.result _
 
 -- THEOREM
-pub read-formed : (text : List ℕ) → Accepts Formed (readText text)
+pub read-formed : (text : List ℕ) → Accepts Formed (read_text text)
 unfolding routine
 read-formed =
     read_keeps Kept Formed start-kept (λ s K n w r f p. added-kept s K n f p.stands p.within)

@@ -15,24 +15,24 @@ use Rattle.rules.specs.declared.types.Statement.{Statement}
 use Rattle.tokens.specs.Token.{Name}
 use Rattle.grammar.specs.Formula.{Formula}
 use Rattle.grammar.specs.Record.{Form, set, xor, mul, app, rand, Record, assign, letting}
-use Rattle.rules.specs.Order.{at_start, inMasked, mayStand, stageAfter}
+use Rattle.rules.specs.Order.{at_start, in_masked, may_stand, stage_after}
 use Rattle.rules.specs.State.{Block, State, start}
-use Rattle.rules.specs.Grown.{atStage, withShares, withMap, withInput}
-use Rattle.rules.specs.Stated.{originAs, maskedAs, withOrigin, withMasked, withOriginAll, withMaskedAll}
-use Rattle.rules.specs.Grown.{withResult, withOutputs}
+use Rattle.rules.specs.Grown.{at_stage, with_shares, with_map, with_input}
+use Rattle.rules.specs.Stated.{origin_as, masked_as, with_origin, with_masked, with_origin_all, with_masked_all}
+use Rattle.rules.specs.Grown.{with_result, with_outputs}
 use Rattle.rules.specs.Scope.{drawn}
-use Rattle.rules.specs.Faults.{statementCount, exceeds}
-use Rattle.rules.specs.Limits.{mostMaps, mostInputs, mostVariables, mostStatements}
-use Rattle.rules.specs.Scope.{letCount, letOps, shareNames}
-use Rattle.rules.specs.Added.{atLine}
+use Rattle.rules.specs.Faults.{statement_count, exceeds}
+use Rattle.rules.specs.Limits.{most_maps, most_inputs, most_variables, most_statements}
+use Rattle.rules.specs.Scope.{let_count, let_ops, share_names}
+use Rattle.rules.specs.Added.{at_line}
 use Rattle.rules.specs.Faults.{block}
 use Rattle.rules.specs.Added.{added}
-use Rattle.rules.specs.Read.{routine, readText}
+use Rattle.rules.specs.Read.{routine, read_text}
 use Rattle.rules.specs.Ranged.{Limited}
-use Rattle.grammar.proofs.Laws.Fits.{Fits, fit-shares, fit-map, fit-input, fit-origin, fit-set, fit-xor, fit-mul}
-use Rattle.grammar.proofs.Laws.Fits.{fit-app, fit-let, fit-rand, fit-result, fit-masked, fit-output}
-use Rattle.tokens.proofs.Laws.Flags.{true-false, or-false}
-use Rattle.rules.proofs.Laws.Letting.{let-length, let-named}
+use Rattle.grammar.proofs.Laws.Fits.{Fits, fit_shares, fit_map, fit_input, fit_origin, fit_set, fit_xor, fit_mul}
+use Rattle.grammar.proofs.Laws.Fits.{fit_app, fit_let, fit_rand, fit_result, fit_masked, fit_output}
+use Rattle.tokens.proofs.Laws.Flags.{true-false, or_false}
+use Rattle.rules.proofs.Laws.Letting.{let_length, let_named}
 use Rattle.rules.proofs.Laws.Stating.{longer, stated}
 use Rattle.rules.proofs.Laws.Reads.{length-shares}
 use Rattle.rules.proofs.Laws.Keeping.{Passed, Accepts, read_keeps}
@@ -41,10 +41,10 @@ use Rattle.rules.proofs.Laws.Keeping.{Passed, Accepts, read_keeps}
 pub record Bounded (s : State) : Type 0 where
   pub begun : (s.stage ≡ at_start → ⊥) → 1 ≤ s.shares
   pub shares : s.shares ≤ 8
-  pub maps : length s.maps ≤ mostMaps
-  pub inputs : s.inputs ≤ mostInputs
-  pub variables : s.variables ≤ mostVariables
-  pub statements : length s.origin.statements + length s.masked.statements ≤ mostStatements
+  pub maps : length s.maps ≤ most_maps
+  pub inputs : s.inputs ≤ most_inputs
+  pub variables : s.variables ≤ most_variables
+  pub statements : length s.origin.statements + length s.masked.statements ≤ most_statements
   pub origin : length s.origin.names ≤ s.inputs + length s.origin.statements
   pub masked : length s.masked.names ≤ s.variables + length s.masked.statements
 
@@ -63,17 +63,17 @@ start-bounded = record {
 }
 
 -- a word other than `shares` stands behind the start
-behind : (s : State) (w : Word) → mayStand w at_start ≡ false → mayStand w s.stage ≡ true → s.stage ≡ at_start → ⊥
-behind s w z m e = true-false (sym (subst (λ (b : Bool). b ≡ true) z (subst (λ (k : ℕ). mayStand w k ≡ true) e m)))
+behind : (s : State) (w : Word) → may_stand w at_start ≡ false → may_stand w s.stage ≡ true → s.stage ≡ at_start → ⊥
+behind s w z m e = true-false (sym (subst (λ (b : Bool). b ≡ true) z (subst (λ (k : ℕ). may_stand w k ≡ true) e m)))
 
 module _ (s : State) (K : Bounded s) (n k : ℕ) (b : s.stage ≡ at_start → ⊥) where
   -- other blocks within the limits, and v variables in all
-  blocks-bounded : (v p : ℕ) (os : List ℕ) (o m : Block) → v ≤ mostVariables
-      → length o.statements + length m.statements ≤ mostStatements
+  blocks_bounded : (v p : ℕ) (os : List ℕ) (o m : Block) → v ≤ most_variables
+      → length o.statements + length m.statements ≤ most_statements
       → length o.names ≤ s.inputs + length o.statements → length m.names ≤ v + length m.statements
-      → Bounded (atStage k (withOutputs os (withResult p (maskedAs m v (originAs o s)))))
-  unfolding atStage withOutputs withResult
-  blocks-bounded v p os o m u c x y = record {
+      → Bounded (at_stage k (with_outputs os (with_result p (masked_as m v (origin_as o s)))))
+  unfolding at_stage with_outputs with_result
+  blocks_bounded v p os o m u c x y = record {
     begun = λ h. K.begun b;
     shares = K.shares;
     maps = K.maps;
@@ -85,52 +85,52 @@ module _ (s : State) (K : Bounded s) (n k : ℕ) (b : s.stage ≡ at_start → �
   }
 
   -- nothing that is bounded is new
-  same-bounded : (p : ℕ) (os : List ℕ) → Bounded (atStage k (withOutputs os (withResult p s)))
-  unfolding atStage withOutputs withResult
+  same-bounded : (p : ℕ) (os : List ℕ) → Bounded (at_stage k (with_outputs os (with_result p s)))
+  unfolding at_stage with_outputs with_result
   same-bounded p os =
-      blocks-bounded s.variables p os s.origin s.masked K.variables K.statements K.origin K.masked
+      blocks_bounded s.variables p os s.origin s.masked K.variables K.statements K.origin K.masked
 
   -- more statements within the limits, each with a name
-  stated-bounded : (t : Bool) (ns : List Name) (sts : List Statement) (v : ℕ) → s.variables ≤ v → v ≤ mostVariables
-      → length ns ≡ length sts → statementCount s + length sts ≤ mostStatements
-      → Bounded (atStage k (stated t ns sts v s))
-  unfolding atStage withOutputs withResult statementCount
+  stated-bounded : (t : Bool) (ns : List Name) (sts : List Statement) (v : ℕ) → s.variables ≤ v → v ≤ most_variables
+      → length ns ≡ length sts → statement_count s + length sts ≤ most_statements
+      → Bounded (at_stage k (stated t ns sts v s))
+  unfolding at_stage with_outputs with_result statement_count
   stated-bounded true ns sts v l u e m =
       let count = length-append s.masked.statements sts in
-      blocks-bounded v s.result s.outputs s.origin (longer ns sts s.masked) u (omega (arith, m, count))
+      blocks_bounded v s.result s.outputs s.origin (longer ns sts s.masked) u (omega (arith, m, count))
       K.origin (omega (arith, K.masked, count, length-append s.masked.names ns))
   stated-bounded false ns sts v l u e m =
       let count = length-append s.origin.statements sts in
-      blocks-bounded s.variables s.result s.outputs (longer ns sts s.origin) s.masked K.variables
+      blocks_bounded s.variables s.result s.outputs (longer ns sts s.origin) s.masked K.variables
       (omega (arith, m, count)) (omega (arith, K.origin, count, length-append s.origin.names ns)) K.masked
 
-  assign-bounded : (x : Name) (f : Form) → exceeds s (assign x f) ≡ false → Bounded (atStage k (added n (assign x f) s))
-  unfolding added exceeds withMasked withOrigin
+  assign-bounded : (x : Name) (f : Form) → exceeds s (assign x f) ≡ false → Bounded (at_stage k (added n (assign x f) s))
+  unfolding added exceeds with_masked with_origin
   assign-bounded x f e =
       let within =
-      or-false (ltb mostStatements (statementCount s + 1)) (ltb mostVariables (s.variables + drawn f)) e in
-      stated-bounded (eqb s.stage inMasked) (x ∷ []) _ (s.variables + drawn f) (omega arith)
-      (ltb-false mostVariables (s.variables + drawn f) within.1) refl
-      (ltb-false mostStatements (statementCount s + 1) within.0)
+      or_false (ltb most_statements (statement_count s + 1)) (ltb most_variables (s.variables + drawn f)) e in
+      stated-bounded (eqb s.stage in_masked) (x ∷ []) _ (s.variables + drawn f) (omega arith)
+      (ltb-false most_variables (s.variables + drawn f) within.1) refl
+      (ltb-false most_statements (statement_count s + 1) within.0)
 
-  let-bounded : (x : Name) (f : Formula) → exceeds s (letting x f) ≡ false
-      → Bounded (atStage k (added n (letting x f) s))
-  unfolding added exceeds withMaskedAll withOriginAll
-  let-bounded x f e =
+  let_bounded : (x : Name) (f : Formula) → exceeds s (letting x f) ≡ false
+      → Bounded (at_stage k (added n (letting x f) s))
+  unfolding added exceeds with_masked_all with_origin_all
+  let_bounded x f e =
       let ms : List Name = (block s).names in
-      stated-bounded (eqb s.stage inMasked) _ (atLine n (letOps ms s.mapNames (length ms) f)) s.variables
-      (omega arith) K.variables (let-named x ms s.mapNames (length ms) n f)
+      stated-bounded (eqb s.stage in_masked) _ (at_line n (let_ops ms s.map_names (length ms) f)) s.variables
+      (omega arith) K.variables (let_named x ms s.map_names (length ms) n f)
       (omega (
         arith,
-        ltb-false mostStatements (statementCount s + letCount f) e,
-        let-length ms s.mapNames (length ms) n f,
+        ltb-false most_statements (statement_count s + let_count f) e,
+        let_length ms s.map_names (length ms) n f,
       ))
 
 -- a record that no refusal stops keeps the limits
 pub added-bounded : (s : State) → Bounded s → (n : ℕ) {w : Word} {r : Record} → Fits w r → Passed s w r
-    → Bounded (atStage (stageAfter w s.stage) (added n r s))
-unfolding atStage added exceeds withShares withMap withInput withResult withOutputs
-added-bounded s K n (fit-shares low high) p = record {
+    → Bounded (at_stage (stage_after w s.stage) (added n r s))
+unfolding at_stage added exceeds with_shares with_map with_input with_result with_outputs
+added-bounded s K n (fit_shares low high) p = record {
   begun = λ h. low;
   shares = high;
   maps = K.maps;
@@ -140,8 +140,8 @@ added-bounded s K n (fit-shares low high) p = record {
   origin = K.origin;
   masked = K.masked;
 }
-added-bounded s K n (fit-map {c = c} {l = l} h e hl) p =
-    let room = ltb-false mostMaps (length s.maps + 1) p.within in
+added-bounded s K n (fit_map {c = c} {l = l} h e hl) p =
+    let room = ltb-false most_maps (length s.maps + 1) p.within in
     record {
       begun = λ h. K.begun (behind s Map refl p.stands);
       shares = K.shares;
@@ -152,48 +152,48 @@ added-bounded s K n (fit-map {c = c} {l = l} h e hl) p =
       origin = K.origin;
       masked = K.masked;
     }
-added-bounded s K n (fit-input {n = x}) p =
-    let e = or-false (ltb mostInputs (s.inputs + 1)) (ltb mostVariables (s.variables + s.shares)) p.within in
+added-bounded s K n (fit_input {n = x}) p =
+    let e = or_false (ltb most_inputs (s.inputs + 1)) (ltb most_variables (s.variables + s.shares)) p.within in
     record {
       begun = λ h. K.begun (behind s Input refl p.stands);
       shares = K.shares;
       maps = K.maps;
-      inputs = ltb-false mostInputs (s.inputs + 1) e.0;
-      variables = ltb-false mostVariables (s.variables + s.shares) e.1;
+      inputs = ltb-false most_inputs (s.inputs + 1) e.0;
+      variables = ltb-false most_variables (s.variables + s.shares) e.1;
       statements = K.statements;
       origin = omega (arith, K.origin, length-append s.origin.names (x ∷ []));
       masked = omega (
         arith,
         K.masked,
-        length-append s.masked.names (shareNames x 0 s.shares),
+        length-append s.masked.names (share_names x 0 s.shares),
         length-shares x 0 s.shares,
       );
     }
-added-bounded s K n fit-origin p =
-    same-bounded s K n (stageAfter Origin s.stage) (behind s Origin refl p.stands) s.result s.outputs
-added-bounded s K n (fit-set {n = x} {a = a} h) p =
+added-bounded s K n fit_origin p =
+    same-bounded s K n (stage_after Origin s.stage) (behind s Origin refl p.stands) s.result s.outputs
+added-bounded s K n (fit_set {n = x} {a = a} h) p =
     assign-bounded s K n s.stage (behind s Set refl p.stands) x (set a) p.within
-added-bounded s K n (fit-xor {n = x} {a = a} {b = b} h k) p =
+added-bounded s K n (fit_xor {n = x} {a = a} {b = b} h k) p =
     assign-bounded s K n s.stage (behind s Xor refl p.stands) x (xor a b) p.within
-added-bounded s K n (fit-mul {n = x} {a = a} {b = b} h k) p =
+added-bounded s K n (fit_mul {n = x} {a = a} {b = b} h k) p =
     assign-bounded s K n s.stage (behind s Mul refl p.stands) x (mul a b) p.within
-added-bounded s K n (fit-app {n = x} {f = f} {a = a} h) p =
+added-bounded s K n (fit_app {n = x} {f = f} {a = a} h) p =
     assign-bounded s K n s.stage (behind s App refl p.stands) x (app f a) p.within
-added-bounded s K n (fit-let {n = x} {f = f} h) p =
-    let-bounded s K n s.stage (behind s Let refl p.stands) x f p.within
-added-bounded s K n (fit-rand {n = x}) p =
+added-bounded s K n (fit_let {n = x} {f = f} h) p =
+    let_bounded s K n s.stage (behind s Let refl p.stands) x f p.within
+added-bounded s K n (fit_rand {n = x}) p =
     assign-bounded s K n s.stage (behind s Rand refl p.stands) x rand p.within
-added-bounded s K n fit-result p =
-    same-bounded s K n (stageAfter Result s.stage) (behind s Result refl p.stands) _ s.outputs
-added-bounded s K n fit-masked p =
-    same-bounded s K n (stageAfter Masked s.stage) (behind s Masked refl p.stands) s.result s.outputs
-added-bounded s K n fit-output p =
-    same-bounded s K n (stageAfter Output s.stage) (behind s Output refl p.stands) s.result _
+added-bounded s K n fit_result p =
+    same-bounded s K n (stage_after Result s.stage) (behind s Result refl p.stands) _ s.outputs
+added-bounded s K n fit_masked p =
+    same-bounded s K n (stage_after Masked s.stage) (behind s Masked refl p.stands) s.result s.outputs
+added-bounded s K n fit_output p =
+    same-bounded s K n (stage_after Output s.stage) (behind s Output refl p.stands) s.result _
 
 -- THEOREM
-pub read-limited : (text : List ℕ) → Accepts Limited (readText text)
+pub read_limited : (text : List ℕ) → Accepts Limited (read_text text)
 unfolding routine
-read-limited =
+read_limited =
     read_keeps Bounded Limited start-bounded (λ s K n w r f p. added-bounded s K n f p) (λ s K n e. record {
       some = K.begun (λ z. omega arith);
       shares = K.shares;

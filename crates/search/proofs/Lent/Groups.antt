@@ -16,15 +16,15 @@ use Rattle.field.specs.Xor.{◌⊕◌}
 use Rattle.field.specs.Laws.{Ops, gf}
 use Rattle.field.proofs.Laws.Xor.{zero-⊕}
 use Rattle.poly.specs.Poly.{term, Poly, or_else, order, keep}
-use Rattle.poly.specs.First.{putSlotRaw}
+use Rattle.poly.specs.First.{put_slot_raw}
 use Rattle.poly.specs.Canon.{Powers}
-use Rattle.poly.specs.Pass.{gatherAt, gather}
-use Rattle.buffer.specs.Buffer.{readTerms, answer}
+use Rattle.poly.specs.Pass.{gather_at, gather}
+use Rattle.buffer.specs.Buffer.{read_terms, answer}
 use Rattle.buffer.specs.Move.{MovedDown, Written}
-use Rattle.search.specs.Put.{Led, carry, sameNext}
-use Rattle.poly.proofs.Laws.Order.{order_same, orElse-eq}
+use Rattle.search.specs.Put.{Led, carry, same_next}
+use Rattle.poly.proofs.Laws.Order.{order_same, or_else_eq}
 use Rattle.buffer.proofs.Lent.Moves.{stored}
-use Rattle.buffer.proofs.Lent.Places.{answer-unique}
+use Rattle.buffer.proofs.Lent.Places.{answer_unique}
 
 -- ---- the powers behind variable i
 
@@ -57,21 +57,21 @@ part-behind b at w i end h q =
     ∙ sym (drop-take (suc i) (w - 1) (drop (suc at) b))
 
 -- no term stands behind the last
-pub alone-next : (i n : ℕ) (b : List ℕ) (at k : ℕ) → k ≡ 1 → false ≡ sameNext i (readTerms n b at k)
-alone-next i n b at k e = sym (ap (λ (x : ℕ). sameNext i (readTerms n b at x)) e)
+pub alone-next : (i n : ℕ) (b : List ℕ) (at k : ℕ) → k ≡ 1 → false ≡ same_next i (read_terms n b at k)
+alone-next i n b at k e = sym (ap (λ (x : ℕ). same_next i (read_terms n b at x)) e)
 
 -- the comparison tells whether the next term is of the same group
 pub compared-next : (i w : ℕ) (b : List ℕ) (at k r : ℕ) → suc i < w → 1 < k
     → r ≡ answer (order (take (at + w - (at + 2 + i)) (drop (at + 2 + i) b))
     (take (at + w + w - (at + w + 2 + i)) (drop (at + w + 2 + i) b)))
-    → eqb r 1 ≡ sameNext i (readTerms (w - 1) b at k)
+    → eqb r 1 ≡ same_next i (read_terms (w - 1) b at k)
 compared-next i w b at k r h l e =
     let q : k ≡ suc (suc (k - 2)) = omega arith in
     let s : at + w ≡ at + suc (w - 1) = omega arith in
     ap (λ (x : ℕ). eqb x 1)
     (e ∙ ap₂ (λ (x y : List ℕ). answer (order x y)) (part-behind b at w i (at + w) h refl)
     (part-behind b (at + w) w i (at + w + w) h refl ∙ ap (λ (x : ℕ). drop (suc i) (take (w - 1) (drop (suc x) b))) s))
-    ∙ sym (ap (λ (x : ℕ). sameNext i (readTerms (w - 1) b at x)) q)
+    ∙ sym (ap (λ (x : ℕ). same_next i (read_terms (w - 1) b at x)) q)
 
 -- ---- terms whose first i powers are zero: with variable i at zero too, the powers behind decide
 
@@ -80,11 +80,11 @@ pub order-led : (i : ℕ) (e f : List ℕ) → i < length e → i < length f →
     → order (set e i 0) (set f i 0) ≡ order (drop (suc i) e) (drop (suc i) f)
 order-led i [] f h k p q = absurd (omega arith)
 order-led i (a ∷ e) [] h k p q = absurd (omega arith)
-order-led zero (a ∷ e) (b ∷ f) h k p q = ap (or_else (order e f)) compare.zero-zero ∙ orElse-eq (order e f)
+order-led zero (a ∷ e) (b ∷ f) h k p q = ap (or_else (order e f)) compare.zero-zero ∙ or_else_eq (order e f)
 order-led (suc i) (a ∷ e) (b ∷ f) h k p q =
     ap₂ (λ (x y : ℕ). or_else (order (set e i 0) (set f i 0)) (compare x y)) (p 0 (omega arith)) (q 0 (omega arith))
     ∙ ap (or_else (order (set e i 0) (set f i 0))) compare.zero-zero
-    ∙ orElse-eq (order (set e i 0) (set f i 0))
+    ∙ or_else_eq (order (set e i 0) (set f i 0))
     ∙ order-led i e f (le_of_suc-le-suc h) (le_of_suc-le-suc k) (λ x l. p (suc x) (omega arith))
     (λ x l. q (suc x) (omega arith))
 
@@ -100,28 +100,28 @@ module _ (m i a c : ℕ) (d : ℕ) (e : List ℕ) where
   gathered = c ⊕ times m d (power (times m) a (get_or e i 0))
 
   -- the group goes on
-  pub carry-on : (q : Poly) → Led i e → i < length e → Powers (λ f. Led i f × (i < length f)) q
-      → sameNext i (term d e ∷ q) ≡ true
-      → carry F gathered (putSlotRaw F i a q) ≡ carry F c (putSlotRaw F i a (term d e ∷ q))
-  carry-on [] h l p s = let z : ◌≡◌ {A = ℕ} 0 1 = cc in absurd (omega arith)
-  carry-on (term d' f ∷ q) h l p s =
+  pub carry_on : (q : Poly) → Led i e → i < length e → Powers (λ f. Led i f × (i < length f)) q
+      → same_next i (term d e ∷ q) ≡ true
+      → carry F gathered (put_slot_raw F i a q) ≡ carry F c (put_slot_raw F i a (term d e ∷ q))
+  carry_on [] h l p s = let z : ◌≡◌ {A = ℕ} 0 1 = cc in absurd (omega arith)
+  carry_on (term d' f ∷ q) h l p s =
       let o : order (set e i 0) (set f i 0) ≡ Ordering.eq =
-      order-led i e f l p.0.1 h p.0.0 ∙ answer-unique (order (drop (suc i) e) (drop (suc i) f)) Ordering.eq
+      order-led i e f l p.0.1 h p.0.0 ∙ answer_unique (order (drop (suc i) e) (drop (suc i) f)) Ordering.eq
       (eqb-true (answer (order (drop (suc i) e) (drop (suc i) f))) 1 s) in
       let v : ℕ = times m d' (power (times m) a (get_or f i 0)) in
-      let r : Poly = putSlotRaw F i a q in
+      let r : Poly = put_slot_raw F i a q in
       ap (λ (x : List ℕ). gather F (gathered ⊕ v) x r) (sym (order_same (set e i 0) (set f i 0) o))
-      ∙ sym (ap (λ (x : Ordering). gatherAt F x gathered (set e i 0) (gather F (gathered ⊕ v) (set e i 0) r)
+      ∙ sym (ap (λ (x : Ordering). gather_at F x gathered (set e i 0) (gather F (gathered ⊕ v) (set e i 0) r)
       (gather F v (set f i 0) r)) o)
 
   -- the group ends
-  pub carry-end : (q : Poly) → Led i e → i < length e → Powers (λ f. Led i f × (i < length f)) q
-      → sameNext i (term d e ∷ q) ≡ false
-      → keep gathered (set e i 0) (carry F 0 (putSlotRaw F i a q)) ≡ carry F c (putSlotRaw F i a (term d e ∷ q))
-  carry-end [] h l p s = refl
-  carry-end (term d' f ∷ q) h l p s =
+  pub carry_end : (q : Poly) → Led i e → i < length e → Powers (λ f. Led i f × (i < length f)) q
+      → same_next i (term d e ∷ q) ≡ false
+      → keep gathered (set e i 0) (carry F 0 (put_slot_raw F i a q)) ≡ carry F c (put_slot_raw F i a (term d e ∷ q))
+  carry_end [] h l p s = refl
+  carry_end (term d' f ∷ q) h l p s =
       let v : ℕ = times m d' (power (times m) a (get_or f i 0)) in
-      let r : Poly = putSlotRaw F i a q in
+      let r : Poly = put_slot_raw F i a q in
       ap (λ (x : ℕ). keep gathered (set e i 0) (gather F x (set f i 0) r)) (zero-⊕ v)
       ∙ other (order (set e i 0) (set f i 0))
       (λ o. eqb-false (answer (order (drop (suc i) e) (drop (suc i) f))) 1 s
@@ -129,10 +129,10 @@ module _ (m i a c : ℕ) (d : ℕ) (e : List ℕ) where
     where
       other : (o : Ordering) → (o ≡ Ordering.eq → ⊥)
           → keep gathered (set e i 0) (gather F (times m d' (power (times m) a (get_or f i 0))) (set f i 0)
-          (putSlotRaw F i a q))
-          ≡ gatherAt F o gathered (set e i 0)
-          (gather F (gathered ⊕ times m d' (power (times m) a (get_or f i 0))) (set e i 0) (putSlotRaw F i a q))
-          (gather F (times m d' (power (times m) a (get_or f i 0))) (set f i 0) (putSlotRaw F i a q))
+          (put_slot_raw F i a q))
+          ≡ gather_at F o gathered (set e i 0)
+          (gather F (gathered ⊕ times m d' (power (times m) a (get_or f i 0))) (set e i 0) (put_slot_raw F i a q))
+          (gather F (times m d' (power (times m) a (get_or f i 0))) (set f i 0) (put_slot_raw F i a q))
       other Ordering.lt n = refl
       other Ordering.eq n = absurd (n refl)
       other Ordering.gt n = refl
@@ -140,17 +140,17 @@ module _ (m i a c : ℕ) (d : ℕ) (e : List ℕ) where
 -- ---- a group's row
 
 -- each byte of the row
-group-row : (b b₁ : List ℕ) (at to w i c : ℕ) → suc i < w → to ≤ at → at + w ≤ length b
+group_row : (b b₁ : List ℕ) (at to w i c : ℕ) → suc i < w → to ≤ at → at + w ≤ length b
     → MovedDown b b₁ at (at + w) (at - to)
     → (x : ℕ) → x < w → length (take (w - 1) (drop (suc at) b)) ≡ w - 1 → to < length b₁
     → to + 1 + i < length (set b₁ to c)
     → get_or (set (set b₁ to c) (to + 1 + i) 0) (to + x) 0 ≡ get_or (c ∷ set (take (w - 1) (drop (suc at) b)) i 0) x 0
-group-row b b₁ at to w i c h l f v zero k n s₁ s₂ =
+group_row b b₁ at to w i c h l f v zero k n s₁ s₂ =
     let z : to + 0 ≡ to = omega arith in
     ap (λ (y : ℕ). get_or (set (set b₁ to c) (to + 1 + i) 0) y 0) z
     ∙ get_or-set_other (set b₁ to c) (to + 1 + i) to 0 0 (omega arith)
     ∙ get_or-set_same b₁ to c 0 s₁
-group-row b b₁ at to w i c h l f v (suc x) k n s₁ s₂ =
+group_row b b₁ at to w i c h l f v (suc x) k n s₁ s₂ =
     let e : List ℕ = take (w - 1) (drop (suc at) b) in
     stored (set b₁ to c) (to + 1 + i) 0 (to + suc x) (get_or (set e i 0) x 0) s₂
     (λ q. let y : x ≡ i = omega arith in sym (ap (λ (z : ℕ). get_or (set e i 0) z 0) y
@@ -164,10 +164,10 @@ group-row b b₁ at to w i c h l f v (suc x) k n s₁ s₂ =
     ∙ get_or-drop (suc at) b x 0))
 
 -- a group's row: the term moved down, with its coefficient and the power 0 of variable i
-pub group-written : (b b₁ : List ℕ) (at to w i c : ℕ) → suc i < w → to ≤ at → at + w ≤ length b
+pub group_written : (b b₁ : List ℕ) (at to w i c : ℕ) → suc i < w → to ≤ at → at + w ≤ length b
     → MovedDown b b₁ at (at + w) (at - to)
     → Written b (set (set b₁ to c) (to + 1 + i) 0) to (c ∷ set (take (w - 1) (drop (suc at) b)) i 0)
-group-written b b₁ at to w i c h l f v =
+group_written b b₁ at to w i c h l f v =
     let e : List ℕ = take (w - 1) (drop (suc at) b) in
     let n : length e ≡ w - 1 = length-take-le (w - 1) (drop (suc at) b) (omega (arith, length-drop (suc at) b)) in
     let b₂ : List ℕ = set b₁ to c in
@@ -178,7 +178,7 @@ group-written b b₁ at to w i c h l f v =
       size = length-set b₂ (to + 1 + i) 0 ∙ length-set b₁ to c ∙ v.size;
       low = λ x k. get_or-set_other b₂ (to + 1 + i) x 0 0 (omega arith) ∙ get_or-set_other b₁ to x c 0 (omega arith)
           ∙ v.low x (omega arith);
-      here = λ x k. group-row b b₁ at to w i c h l f v x (omega arith) n s₁ s₂;
+      here = λ x k. group_row b b₁ at to w i c h l f v x (omega arith) n s₁ s₂;
       high = λ x k. get_or-set_other b₂ (to + 1 + i) x 0 0 (omega arith) ∙ get_or-set_other b₁ to x c 0 (omega arith)
           ∙ v.high x (omega arith);
     }

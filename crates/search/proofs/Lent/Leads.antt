@@ -77,14 +77,14 @@ lead-length i [] = refl
 lead-length i (term c e ∷ p) = ap suc (lead-length i p)
 
 -- a list of length 0 has no term
-pub none-of-length : (p : Poly) → length p ≡ 0 → p ≡ []
-none-of-length [] h = refl
-none-of-length (t ∷ p) h = absurd (omega arith)
+pub none_of_length : (p : Poly) → length p ≡ 0 → p ≡ []
+none_of_length [] h = refl
+none_of_length (t ∷ p) h = absurd (omega arith)
 
 -- a longer one has a term
-pub some-of-length : (p : Poly) → 0 < length p → Some p
-some-of-length [] h = absurd (omega arith)
-some-of-length (t ∷ p) h = tt
+pub some_of_length : (p : Poly) → 0 < length p → Some p
+some_of_length [] h = absurd (omega arith)
+some_of_length (t ∷ p) h = tt
 
 -- nothing left out
 pub cut-none : (p : Poly) → cut 0 p ≡ p

@@ -12,16 +12,16 @@ use Rattle.field.specs.Field.{power, times}
 use Rattle.field.specs.Maps.{list_of}
 use Rattle.field.specs.Xor.{◌⊕◌}
 use Rattle.field.specs.Laws.{Ops, gf}
-use Rattle.field.proofs.Laws.Sums.{getD-listOf}
+use Rattle.field.proofs.Laws.Sums.{get_d_list_of}
 use Rattle.poly.specs.Poly.{Term, term, Poly, keep}
-use Rattle.poly.specs.First.{putSlotRaw}
+use Rattle.poly.specs.First.{put_slot_raw}
 use Rattle.poly.specs.Canon.{Powers}
-use Rattle.buffer.specs.Buffer.{termAt, readTerms}
+use Rattle.buffer.specs.Buffer.{term_at, read_terms}
 use Rattle.buffer.specs.Move.{Written}
-use Rattle.search.specs.Put.{Led, carry, sameNext, StepAsked, Stepped}
-use Rattle.buffer.proofs.Lent.Strides.{row-end}
+use Rattle.search.specs.Put.{Led, carry, same_next, StepAsked, Stepped}
+use Rattle.buffer.proofs.Lent.Strides.{row_end}
 use Rattle.buffer.proofs.Lent.Reads.{read_same, read_more, term-written}
-use Rattle.search.proofs.Lent.Groups.{gathered, carry-on, carry-end}
+use Rattle.search.proofs.Lent.Groups.{gathered, carry_on, carry_end}
 
 -- ---- terms in a buffer have their powers
 
@@ -32,7 +32,7 @@ both P Q (term c e ∷ p) h k = ((h.0, k.0), both P Q p h.1 k.1)
 
 -- terms that are read have a power of variable i
 read-long : (i n : ℕ) (b : List ℕ) (at k : ℕ) → i < n → at + k * suc n ≤ length b
-    → Powers (λ f. i < length f) (readTerms n b at k)
+    → Powers (λ f. i < length f) (read_terms n b at k)
 read-long i n b at zero h l = tt
 read-long i n b at (suc k) h l =
     let e : suc k * suc n ≡ k * suc n + suc n = suc-mul k (suc n) in (
@@ -45,7 +45,7 @@ read-long i n b at (suc k) h l =
 -- the table holds the powers
 table_at : (m a : ℕ) (table : List ℕ) (x : ℕ) → table ≡ list_of 256 (power (times m) a) → x < 256
     → get_or table x 0 ≡ power (times m) a x
-table_at m a table x e h = ap (λ (l : List ℕ). get_or l x 0) e ∙ getD-listOf 256 (power (times m) a) 0 x h
+table_at m a table x e h = ap (λ (l : List ℕ). get_or l x 0) e ∙ get_d_list_of 256 (power (times m) a) 0 x h
 
 -- ---- the step
 
@@ -68,22 +68,22 @@ module _ (m : ℕ) (b : List ℕ) (k w i a j r c : ℕ) (h : StepAsked b k w i j
 
   -- the terms behind it
   abbrev behind : Poly
-  behind = readTerms n b (suc j * w) (k - suc j)
+  behind = read_terms n b (suc j * w) (k - suc j)
 
   -- it stands in the buffer
   inside : j * w + w ≤ length b
-  inside = omega (arith, row-end j k w h.next, h.source)
+  inside = omega (arith, row_end j k w h.next, h.source)
 
   -- it has n powers
   length-e : length e ≡ n
   length-e = length-take-le n (drop (suc (j * w)) b) (omega (arith, inside, length-drop (suc (j * w)) b, h.inside))
 
   -- the terms from j on: this one, and those behind it
-  split : readTerms n b (j * w) (k - j) ≡ term d e ∷ behind
+  split : read_terms n b (j * w) (k - j) ≡ term d e ∷ behind
   split =
       let u : k - j ≡ suc (k - suc j) = omega (arith, h.next) in
       let v : j * w + suc n ≡ suc j * w = omega (arith, suc-mul j w, h.inside) in
-      ap (readTerms n b (j * w)) u ∙ ap (λ (x : ℕ). term d e ∷ readTerms n b x (k - suc j)) v
+      ap (read_terms n b (j * w)) u ∙ ap (λ (x : ℕ). term d e ∷ read_terms n b x (k - suc j)) v
 
   -- their first i powers are zero
   led : Powers (Led i) (term d e ∷ behind)
@@ -115,40 +115,40 @@ module _ (m : ℕ) (b : List ℕ) (k w i a j r c : ℕ) (h : StepAsked b k w i j
 
   module _ (s : ℕ) (sum : s ≡ gathered m i a c d e) where
     -- the group goes on
-    pub step-on : true ≡ sameNext i (readTerms n b (j * w) (k - j)) → Stepped m b b k w i a j r c r s
-    step-on q = record {
+    pub step_on : true ≡ same_next i (read_terms n b (j * w) (k - j)) → Stepped m b b k w i a j r c r s
+    step_on q = record {
       size = refl;
       most = omega (arith, h.written);
       least = omega arith;
-      value = ap {B = Poly} (λ (x : Poly). readTerms n b 0 r ++ x)
-          (ap (λ (x : ℕ). carry F x (putSlotRaw F i a behind)) sum
-          ∙ carry-on m i a c d e behind led.0 (omega (arith, length-e, h.inside)) long
-          (sym (q ∙ ap (sameNext i) split))
-          ∙ sym (ap (λ (x : Poly). carry F c (putSlotRaw F i a x)) split));
+      value = ap {B = Poly} (λ (x : Poly). read_terms n b 0 r ++ x)
+          (ap (λ (x : ℕ). carry F x (put_slot_raw F i a behind)) sum
+          ∙ carry_on m i a c d e behind led.0 (omega (arith, length-e, h.inside)) long
+          (sym (q ∙ ap (same_next i) split))
+          ∙ sym (ap (λ (x : Poly). carry F c (put_slot_raw F i a x)) split));
       high = λ x l. refl;
       kept = λ _. refl;
     }
 
     -- what the terms behind give
     abbrev done : Poly
-    done = carry F 0 (putSlotRaw F i a behind)
+    done = carry F 0 (put_slot_raw F i a behind)
 
     -- the group ends, and its sum is kept
-    ends : false ≡ sameNext i (readTerms n b (j * w) (k - j))
-        → keep s (set e i 0) done ≡ carry F c (putSlotRaw F i a (readTerms n b (j * w) (k - j)))
+    ends : false ≡ same_next i (read_terms n b (j * w) (k - j))
+        → keep s (set e i 0) done ≡ carry F c (put_slot_raw F i a (read_terms n b (j * w) (k - j)))
     ends q =
         ap (λ (x : ℕ). keep x (set e i 0) done) sum
-        ∙ carry-end m i a c d e behind led.0 (omega (arith, length-e, h.inside)) long
-        (sym (q ∙ ap (sameNext i) split))
-        ∙ sym (ap (λ (x : Poly). carry F c (putSlotRaw F i a x)) split)
+        ∙ carry_end m i a c d e behind led.0 (omega (arith, length-e, h.inside)) long
+        (sym (q ∙ ap (same_next i) split))
+        ∙ sym (ap (λ (x : Poly). carry F c (put_slot_raw F i a x)) split)
 
     -- the group ends, and its sum is zero
-    pub step-none : false ≡ sameNext i (readTerms n b (j * w) (k - j)) → s ≡ 0 → Stepped m b b k w i a j r c r 0
+    pub step-none : false ≡ same_next i (read_terms n b (j * w) (k - j)) → s ≡ 0 → Stepped m b b k w i a j r c r 0
     step-none q z = record {
       size = refl;
       most = omega (arith, h.written);
       least = omega arith;
-      value = ap {B = Poly} (λ (x : Poly). readTerms n b 0 r ++ x)
+      value = ap {B = Poly} (λ (x : Poly). read_terms n b 0 r ++ x)
           (sym (ap (λ (x : ℕ). keep x (set e i 0) done) z) ∙ ends q);
       high = λ x l. refl;
       kept = λ _. refl;
@@ -161,7 +161,7 @@ module _ (m : ℕ) (b : List ℕ) (k w i a j r c : ℕ) (h : StepAsked b k w i j
 
     -- the group stands behind the terms written so far
     behind-written : (b' : List ℕ) → Written b b' (r * w) (s ∷ set e i 0)
-        → readTerms n b' 0 (r + 1) ≡ readTerms n b 0 r ++ (term s (set e i 0) ∷ [])
+        → read_terms n b' 0 (r + 1) ≡ read_terms n b 0 r ++ (term s (set e i 0) ∷ [])
     behind-written b' g =
         let t : length (set e i 0) ≡ n = length-set e i 0 ∙ length-e in
         let u : r * w ≤ j * w = mul-le-mul_right w h.written in
@@ -169,17 +169,17 @@ module _ (m : ℕ) (b : List ℕ) (k w i a j r c : ℕ) (h : StepAsked b k w i j
         let o : suc i < w = h.inside in
         let v : suc n ≡ w = omega arith in
         let y : 0 + r * suc n ≡ r * w = ap (λ (x : ℕ). 0 + r * x) v ∙ zero-add (r * w) in
-        ap (readTerms n b' 0) (add-one r) ∙ read_more n b' 0 r
-        ∙ ap₂ {C = Poly} (λ (x : Poly) (y : ℕ). x ++ (termAt n b' y ∷ []))
+        ap (read_terms n b' 0) (add-one r) ∙ read_more n b' 0 r
+        ∙ ap₂ {C = Poly} (λ (x : Poly) (y : ℕ). x ++ (term_at n b' y ∷ []))
         (read_same n b' b 0 r g.size (λ x l p. g.low x (omega arith))) y
-        ∙ ap {B = Poly} (λ (x : Term). readTerms n b 0 r ++ (x ∷ []))
+        ∙ ap {B = Poly} (λ (x : Term). read_terms n b 0 r ++ (x ∷ []))
         (term-written n b' (r * w) s (set e i 0) t (omega (arith, g.size)) (λ x l. g.here x (omega arith)))
 
     -- the group ends, and is written
-    pub step-write : (b' : List ℕ) → false ≡ sameNext i (readTerms n b (j * w) (k - j)) → 0 < s
+    pub step_write : (b' : List ℕ) → false ≡ same_next i (read_terms n b (j * w) (k - j)) → 0 < s
         → Written b b' (r * w) (s ∷ set e i 0)
         → Stepped m b b' k w i a j r c (r + 1) 0
-    step-write b' q z g =
+    step_write b' q z g =
         let t : length (set e i 0) ≡ n = length-set e i 0 ∙ length-e in
         let u : r * w ≤ j * w = mul-le-mul_right w h.written in
         let v : suc j * w ≡ j * w + w = suc-mul j w in
@@ -189,10 +189,10 @@ module _ (m : ℕ) (b : List ℕ) (k w i a j r c : ℕ) (h : StepAsked b k w i j
           most = omega (arith, h.written);
           least = omega arith;
           value =
-              ap₂ {C = Poly} (λ (x y : Poly). x ++ carry F 0 (putSlotRaw F i a y)) (behind-written b' g)
+              ap₂ {C = Poly} (λ (x y : Poly). x ++ carry F 0 (put_slot_raw F i a y)) (behind-written b' g)
               (read_same n b' b (suc j * w) (k - suc j) g.size (λ x l p. g.high x (omega arith)))
-              ∙ append_assoc (readTerms n b 0 r) (term s (set e i 0) ∷ []) done
-              ∙ ap {B = Poly} (λ (x : Poly). readTerms n b 0 r ++ x) (keep_some s (set e i 0) done z ∙ ends q);
+              ∙ append_assoc (read_terms n b 0 r) (term s (set e i 0) ∷ []) done
+              ∙ ap {B = Poly} (λ (x : Poly). read_terms n b 0 r ++ x) (keep_some s (set e i 0) done z ∙ ends q);
           high = λ x l. g.high x (omega arith);
           kept = λ l. absurd (omega arith);
         }

@@ -11,16 +11,16 @@ use lib.ListN.{length, get_or, set}
 use Rattle.field.specs.Field.{Modulus}
 use Rattle.field.specs.Laws.{Ops, gf}
 use Rattle.field.proofs.Laws.Xor.{zero-⊕}
-use Rattle.field.proofs.Laws.Field.{gf-laws}
+use Rattle.field.proofs.Laws.Field.{gf_laws}
 use Rattle.poly.specs.Poly.{term, Poly, order}
-use Rattle.poly.specs.First.{putSlotRaw, putSlot}
+use Rattle.poly.specs.First.{put_slot_raw, put_slot}
 use Rattle.poly.specs.Canon.{ByteList, Powers, Above, Sorted, Canon}
 use Rattle.poly.specs.Pass.{gather, pass}
-use Rattle.buffer.specs.Buffer.{readTerms}
+use Rattle.buffer.specs.Buffer.{read_terms}
 use Rattle.search.specs.Put.{Led, PutAsked, Put, carry, onward, StepAsked, Stepped}
 use Rattle.poly.proofs.Laws.Order.{gt≢lt}
 use Rattle.poly.proofs.Laws.Normal.{canon-raw}
-use Rattle.poly.proofs.Laws.Put.{putSlot-raw}
+use Rattle.poly.proofs.Laws.Put.{put_slot_raw_lem}
 use Rattle.poly.proofs.Laws.Pass.{Rising, Rises, pass-normal}
 use Rattle.buffer.proofs.Lent.Compare.{decided}
 use Rattle.buffer.proofs.Lent.Reads.{read-parts, read_same}
@@ -42,24 +42,24 @@ module _ (F : Ops) (n i a : ℕ) (l : i < n) where
   Fit f = Led i f × ByteList n f
 
   -- with the byte put in, powers that rose do not fall
-  not-falling : (e f : List ℕ) → Fit e → Fit f → order e f ≡ Ordering.lt → order (set e i 0) (set f i 0) ≡ Ordering.gt
+  not_falling : (e f : List ℕ) → Fit e → Fit f → order e f ≡ Ordering.lt → order (set e i 0) (set f i 0) ≡ Ordering.gt
       → ⊥
-  not-falling e f h k o g =
+  not_falling e f h k o g =
       let x : length e ≡ n = bytes-length n e h.1 in
       let y : length f ≡ n = bytes-length n f k.1 in
       gt≢lt (sym (decided Ordering.gt (λ r. refl) (suc i) e f (omega arith) (omega arith)
       (sym (order-led i e f (omega arith) (omega arith) h.0 k.0) ∙ g)) ∙ o)
 
   -- and so from each term on
-  slot-rising : (e : List ℕ) (p : Poly) → Fit e → Above e p → Sorted p → Powers Fit p
-      → Rising (set e i 0) (putSlotRaw F i a p)
-  slot-rising e [] h b s k = tt
-  slot-rising e (term d f ∷ p) h b s k = (not-falling e f h k.0 b, slot-rising f p k.0 s.0 s.1 k.1)
+  slot_rising : (e : List ℕ) (p : Poly) → Fit e → Above e p → Sorted p → Powers Fit p
+      → Rising (set e i 0) (put_slot_raw F i a p)
+  slot_rising e [] h b s k = tt
+  slot_rising e (term d f ∷ p) h b s k = (not_falling e f h k.0 b, slot_rising f p k.0 s.0 s.1 k.1)
 
   -- and so in the whole list
-  pub slot-rises : (p : Poly) → Sorted p → Powers Fit p → Rises (putSlotRaw F i a p)
-  slot-rises [] s k = tt
-  slot-rises (term d f ∷ p) s k = slot-rising f p k.0 s.0 s.1 k.1
+  pub slot_rises : (p : Poly) → Sorted p → Powers Fit p → Rises (put_slot_raw F i a p)
+  slot_rises [] s k = tt
+  slot_rises (term d f ∷ p) s k = slot_rising f p k.0 s.0 s.1 k.1
 
 -- nothing gathered before the first term
 carry-none : (m : ℕ) (p : Poly) → carry (gf m) 0 p ≡ pass (gf m) p
@@ -67,13 +67,13 @@ carry-none m [] = refl
 carry-none m (term d f ∷ p) = ap (λ (x : ℕ). gather (gf m) x f p) (zero-⊕ d)
 
 -- the pass gives the normal form
-slot-pass : (m n i a : ℕ) (p : Poly) → Modulus m → i < n → Canon n p → Powers (Led i) p
-    → carry (gf m) 0 (putSlotRaw (gf m) i a p) ≡ putSlot (gf m) i a p
-slot-pass m n i a p M l h k =
-    let L = gf-laws M in
-    carry-none m (putSlotRaw (gf m) i a p)
-    ∙ pass-normal (gf m) L {n = n} (putSlotRaw (gf m) i a p) (putSlot-raw (gf m) L i a p (canon-raw h))
-    (slot-rises (gf m) n i a l p h.sorted (both (Led i) (ByteList n) p k h.powers))
+slot_pass : (m n i a : ℕ) (p : Poly) → Modulus m → i < n → Canon n p → Powers (Led i) p
+    → carry (gf m) 0 (put_slot_raw (gf m) i a p) ≡ put_slot (gf m) i a p
+slot_pass m n i a p M l h k =
+    let L = gf_laws M in
+    carry-none m (put_slot_raw (gf m) i a p)
+    ∙ pass-normal (gf m) L {n = n} (put_slot_raw (gf m) i a p) (put_slot_raw_lem (gf m) L i a p (canon-raw h))
+    (slot_rises (gf m) n i a l p h.sorted (both (Led i) (ByteList n) p k h.powers))
 
 -- ---- the loop
 
@@ -110,8 +110,8 @@ module _ (m : ℕ) (b₀ : List ℕ) (k w i a : ℕ) (b : List ℕ) (r c j : ℕ
   stride = omega (arith, h.asked.inside)
 
   -- what the next step asks
-  pub put-asks : j < k → StepAsked b k w i j r
-  put-asks l =
+  pub put_asks : j < k → StepAsked b k w i j r
+  put_asks l =
       let u : k ≡ j + (k - j) = omega arith in
       let v : 0 + j * suc (w - 1) ≡ j * w = ap (λ (x : ℕ). 0 + j * x) stride ∙ zero-add (j * w) in
       let y : (k - j) * suc (w - 1) ≡ (k - j) * w = ap (λ (x : ℕ). (k - j) * x) stride in
@@ -121,10 +121,10 @@ module _ (m : ℕ) (b₀ : List ℕ) (k w i a : ℕ) (b : List ℕ) (r c j : ℕ
         next = l;
         written = h.written;
         led = subst (Powers (Led i))
-            (ap (λ (x : ℕ). readTerms (w - 1) b₀ x (k - j)) v
+            (ap (λ (x : ℕ). read_terms (w - 1) b₀ x (k - j)) v
             ∙ sym (read_same (w - 1) b b₀ (j * w) (k - j) h.size (λ x p q. h.ahead x p)))
-            (powers-right (Led i) (readTerms (w - 1) b₀ 0 j) (readTerms (w - 1) b₀ (0 + j * suc (w - 1)) (k - j))
-            (subst (Powers (Led i)) (ap (readTerms (w - 1) b₀ 0) u ∙ read-parts (w - 1) b₀ 0 j (k - j))
+            (powers-right (Led i) (read_terms (w - 1) b₀ 0 j) (read_terms (w - 1) b₀ (0 + j * suc (w - 1)) (k - j))
+            (subst (Powers (Led i)) (ap (read_terms (w - 1) b₀ 0) u ∙ read-parts (w - 1) b₀ 0 j (k - j))
             h.asked.led));
       }
 
@@ -156,12 +156,12 @@ module _ (m : ℕ) (b₀ : List ℕ) (k w i a : ℕ) (b : List ℕ) (r c j : ℕ
         held = record {
           size = h.size;
           terms =
-              sym (append-nil (readTerms (w - 1) b 0 r))
-              ∙ ap (λ (x : ℕ). readTerms (w - 1) b 0 r ++ carry F c
-              (putSlotRaw F i a (readTerms (w - 1) b (j * w) x))) z
+              sym (append-nil (read_terms (w - 1) b 0 r))
+              ∙ ap (λ (x : ℕ). read_terms (w - 1) b 0 r ++ carry F c
+              (put_slot_raw F i a (read_terms (w - 1) b (j * w) x))) z
               ∙ h.value
-              ∙ ap₂ (λ (x y : ℕ). carry F 0 (putSlotRaw F i a (readTerms (w - 1) b₀ x y))) u v
-              ∙ slot-pass m (w - 1) i a (readTerms (w - 1) b₀ 0 k) h.asked.modulus
+              ∙ ap₂ (λ (x y : ℕ). carry F 0 (put_slot_raw F i a (read_terms (w - 1) b₀ x y))) u v
+              ∙ slot_pass m (w - 1) i a (read_terms (w - 1) b₀ 0 k) h.asked.modulus
               (omega (arith, h.asked.inside)) h.asked.canon h.asked.led;
           high = λ x p. h.ahead x (subst (λ (y : ℕ). y * w ≤ x) (sym e) p);
         };

@@ -13,17 +13,17 @@ use Rattle.rules.specs.declared.types.Op.{Op}
 use Rattle.rules.specs.declared.types.Op.TheVariants.{Set, Xor, Mul, App, Rand}
 use Rattle.rules.specs.declared.types.Statement.{Statement}
 use Rattle.text.specs.declared.routine.Routine as code
-use Rattle.text.specs.Routine.{mapsOf, origin_of, maskedOf, routine_of}
+use Rattle.text.specs.Routine.{maps_of, origin_of, masked_of, routine_of}
 use Rattle.rules.specs.Ranged.{ReadsOp, ReadsAbove}
 use Rattle.values.specs.declared.shelf.Shelf.{Shelf}
 use Rattle.values.specs.declared.source.Scope.{Scope}
 use Rattle.survey.specs.declared.walk.Walk.{Walk}
 use Rattle.values.specs.Shelf.{bare}
-use Rattle.values.specs.Raw.{mostStanding, Inside}
+use Rattle.values.specs.Raw.{most_standing, Inside}
 use Rattle.values.specs.Value.{Workable}
 use Rattle.survey.specs.Walk.{blank, WalkAsked, Walked}
 use Rattle.survey.specs.Table.{Listed, Constants}
-use Rattle.survey.specs.Survey.{modulus, termBytes, originScope, maskedScope, Ready, Lent, BlockAsked, Begun}
+use Rattle.survey.specs.Survey.{modulus, term_bytes, origin_scope, masked_scope, Ready, Lent, BlockAsked, Begun}
 use Rattle.survey.specs.Survey.{OriginWalked, MaskedWalked}
 use Rattle.values.proofs.Laws.Shelves.{bare-sound}
 use Rattle.survey.proofs.Laws.Filling.{tabled}
@@ -45,8 +45,8 @@ inside-at maps v at l (s ∷ ss) h zero = inside-op maps v at l s.op h.0
 inside-at maps v at l (s ∷ ss) h (suc i) = inside-at maps v (suc at) l ss h.1 i
 
 module _ {r : code.Routine} (Q : Ready r) where
-  few-maps : length (mapsOf r) ≤ 8
-  unfolding mapsOf
+  few-maps : length (maps_of r) ≤ 8
+  unfolding maps_of
   few-maps = omega (arith, length-take r.mapped r.maps, Q.counted.maps)
 
   -- the origin block draws no variable
@@ -54,32 +54,32 @@ module _ {r : code.Routine} (Q : Ready r) where
   unfolding routine_of origin_of
   origin-inside i h =
       subst (λ (s : Statement). Inside 0 s.op) (get_or-take r.origin r.statements i blank h)
-      (inside-at (length (mapsOf r)) 0 r.inputs few-maps (origin_of r) Q.ranged.origin i)
+      (inside-at (length (maps_of r)) 0 r.inputs few-maps (origin_of r) Q.ranged.origin i)
 
   -- the masked block may draw every variable
   masked-inside : (i : ℕ) → r.origin ≤ i → i < r.origin + r.masked
       → Inside r.variables (get_or r.statements i blank).op
-  unfolding routine_of maskedOf
+  unfolding routine_of masked_of
   masked-inside i l h =
       let j : ℕ = i - r.origin in
       let e : r.origin + j ≡ i = omega arith in
       subst (λ (s : Statement). Inside r.variables s.op)
       (get_or-take r.masked (drop r.origin r.statements) j blank (omega arith)
       ∙ get_or-drop r.origin r.statements j blank ∙ ap (λ (x : ℕ). get_or r.statements x blank) e)
-      (inside-at (length (mapsOf r)) r.variables (r.inputs * r.shares) few-maps (maskedOf r) Q.ranged.masked j)
+      (inside-at (length (maps_of r)) r.variables (r.inputs * r.shares) few-maps (masked_of r) Q.ranged.masked j)
 
 -- ---- room
 
 -- the first work buffer has room for the most terms
 pub lent-room : (r : code.Routine) (left right : List ℕ) → Ready r → Lent left right
-    → mostStanding * termBytes r ≤ length left
+    → most_standing * term_bytes r ≤ length left
 lent-room r left right Q l =
     let h : r.variables + 1 ≤ 17 = omega (arith, Q.counted.room) in
-    omega (arith, mul-le-mul_left mostStanding h, l.room)
+    omega (arith, mul-le-mul_left most_standing h, l.room)
 
 -- the buffers have the room that a walk asks
 workable : {r : code.Routine} {left right : List ℕ} → Ready r → Lent left right
-    → Workable modulus left right (termBytes r)
+    → Workable modulus left right (term_bytes r)
 workable {r} {left} {right} Q l = record {
   modulus = aes;
   some = omega arith;
@@ -92,9 +92,9 @@ workable {r} {left} {right} Q l = record {
 
 module _ {r : code.Routine} {lists : List (List ℕ)} {constants left right : List ℕ}
     (A : BlockAsked r lists constants left right) where
-  origin_here : WalkAsked modulus lists constants (mapsOf r) r.statements 0 r.origin
-      (originScope r) bare left right
-      (termBytes r) mostStanding
+  origin_here : WalkAsked modulus lists constants (maps_of r) r.statements 0 r.origin
+      (origin_scope r) bare left right
+      (term_bytes r) most_standing
   unfolding bare
   origin_here = record {
     sized = record {
@@ -119,8 +119,8 @@ module _ {r : code.Routine} {lists : List (List ℕ)} {constants left right : Li
     room = lent-room r left right A.ready A.lent;
   }
 
-  masked-here : (d : Shelf) → Begun r d → WalkAsked modulus lists constants (mapsOf r) r.statements r.origin
-      (r.origin + r.masked) (maskedScope r) d left right (termBytes r) mostStanding
+  masked-here : (d : Shelf) → Begun r d → WalkAsked modulus lists constants (maps_of r) r.statements r.origin
+      (r.origin + r.masked) (masked_scope r) d left right (term_bytes r) most_standing
   masked-here d B = record {
     sized = record {
       narrow = record {
@@ -144,45 +144,45 @@ module _ {r : code.Routine} {lists : List (List ℕ)} {constants left right : Li
   }
 
   -- the same, where the scope and the directory come of a call
-  pub origin-asked : (s : Scope) (d : Shelf) → s ≡ originScope r → d ≡ bare
-      → WalkAsked modulus lists constants (mapsOf r) r.statements 0 r.origin s d left right
-      (termBytes r) mostStanding
+  pub origin-asked : (s : Scope) (d : Shelf) → s ≡ origin_scope r → d ≡ bare
+      → WalkAsked modulus lists constants (maps_of r) r.statements 0 r.origin s d left right
+      (term_bytes r) most_standing
   origin-asked s d e f =
-      subst (λ (x : Scope). WalkAsked modulus lists constants (mapsOf r) r.statements 0 r.origin x d left right
-      (termBytes r) mostStanding) (sym e)
-      (subst (λ (x : Shelf). WalkAsked modulus lists constants (mapsOf r) r.statements 0 r.origin
-      (originScope r) x left right (termBytes r) mostStanding) (sym f) origin_here)
+      subst (λ (x : Scope). WalkAsked modulus lists constants (maps_of r) r.statements 0 r.origin x d left right
+      (term_bytes r) most_standing) (sym e)
+      (subst (λ (x : Shelf). WalkAsked modulus lists constants (maps_of r) r.statements 0 r.origin
+      (origin_scope r) x left right (term_bytes r) most_standing) (sym f) origin_here)
 
   -- the walk over the masked block is asked what holds
-  pub masked-asked : (s : Scope) (d : Shelf) → s ≡ maskedScope r → Begun r d
-      → WalkAsked modulus lists constants (mapsOf r) r.statements r.origin (r.origin + r.masked) s d left right
-      (termBytes r) mostStanding
+  pub masked-asked : (s : Scope) (d : Shelf) → s ≡ masked_scope r → Begun r d
+      → WalkAsked modulus lists constants (maps_of r) r.statements r.origin (r.origin + r.masked) s d left right
+      (term_bytes r) most_standing
   masked-asked s d e B =
       subst (λ (x : Scope).
-      WalkAsked modulus lists constants (mapsOf r) r.statements r.origin (r.origin + r.masked) x d left right
-      (termBytes r) mostStanding)
+      WalkAsked modulus lists constants (maps_of r) r.statements r.origin (r.origin + r.masked) x d left right
+      (term_bytes r) most_standing)
       (sym e) (masked-here d B)
 
 -- ---- what they leave, by the scope of each block
 
 module _ (r : code.Routine) {left left' : List ℕ} {q : Walk} {s : Scope} {d : Shelf} where
   -- what the first walk leaves
-  pub origin-walked : s ≡ originScope r → d ≡ bare
-      → Walked modulus (mapsOf r) r.statements 0 r.origin s d left (termBytes r) mostStanding left' q
+  pub origin-walked : s ≡ origin_scope r → d ≡ bare
+      → Walked modulus (maps_of r) r.statements 0 r.origin s d left (term_bytes r) most_standing left' q
       → OriginWalked r left left' q
   origin-walked e f h =
-      subst (λ (x : Shelf). Walked modulus (mapsOf r) r.statements 0 r.origin (originScope r) x left
-      (termBytes r) mostStanding left' q) f
-      (subst (λ (x : Scope). Walked modulus (mapsOf r) r.statements 0 r.origin x d left
-      (termBytes r) mostStanding left' q) e h)
+      subst (λ (x : Shelf). Walked modulus (maps_of r) r.statements 0 r.origin (origin_scope r) x left
+      (term_bytes r) most_standing left' q) f
+      (subst (λ (x : Scope). Walked modulus (maps_of r) r.statements 0 r.origin x d left
+      (term_bytes r) most_standing left' q) e h)
 
   -- what the second walk leaves
-  pub masked-walked : s ≡ maskedScope r
-      → Walked modulus (mapsOf r) r.statements r.origin (r.origin + r.masked) s d left
-      (termBytes r) mostStanding left' q → MaskedWalked r d left left' q
+  pub masked-walked : s ≡ masked_scope r
+      → Walked modulus (maps_of r) r.statements r.origin (r.origin + r.masked) s d left
+      (term_bytes r) most_standing left' q → MaskedWalked r d left left' q
   masked-walked e h =
-      subst (λ (x : Scope). Walked modulus (mapsOf r) r.statements r.origin (r.origin + r.masked) x d left
-      (termBytes r) mostStanding left' q) e h
+      subst (λ (x : Scope). Walked modulus (maps_of r) r.statements r.origin (r.origin + r.masked) x d left
+      (term_bytes r) most_standing left' q) e h
 
 -- ---- the tables and the buffers
 
@@ -190,9 +190,9 @@ module _ (r : code.Routine) {left left' : List ℕ} {q : Walk} {s : Scope} {d : 
 pub block-asked : (r : code.Routine) (lists : List (List ℕ)) (constants left right : List ℕ) → Ready r → Lent left right
     → Listed modulus (take r.mapped r.maps) lists 8 → Constants (take r.mapped r.maps) constants 8
     → BlockAsked r lists constants left right
-unfolding mapsOf
+unfolding maps_of
 block-asked r lists constants left right Q l a b =
-    record { ready = Q; lent = l; tabled = tabled modulus (mapsOf r) lists constants a b }
+    record { ready = Q; lent = l; tabled = tabled modulus (maps_of r) lists constants a b }
 
 -- the buffers keep their lengths
 pub lent-kept : (left right left' right' : List ℕ) → length left' ≡ length left → length right' ≡ length right

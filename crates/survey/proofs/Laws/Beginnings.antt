@@ -15,7 +15,7 @@ use Rattle.verdict.specs.Instances.{polynomials}
 use Rattle.verdict.proofs.Laws.Lists.{lots-behind}
 use Rattle.verdict.proofs.Laws.Begins.{tabulate-same, tabulate-take, inputs-from}
 use Rattle.values.specs.declared.source.Scope.{Scope}
-use Rattle.values.specs.Source.{beginning, variablesOf}
+use Rattle.values.specs.Source.{beginning, variables_of}
 
 -- ---- the lots of a list
 
@@ -31,26 +31,26 @@ module _ {X : Type 0} where
 
 module _ (m n v k : ℕ) (h : v ≤ n) where
   -- the inputs
-  pub origin-begins : (s : Scope) → s.width ≡ k → s.begins * k ≤ v
+  pub origin_begins : (s : Scope) → s.width ≡ k → s.begins * k ≤ v
       → beginning n s ≡ map (joined (polynomials m n)) (lots k s.begins (tabulate v (variable n)))
   unfolding beginning
-  origin-begins s e l =
+  origin_begins s e l =
       ap (λ (x : ℕ). tabulate s.begins (λ i. units n (i * x) x)) e
       ∙ sym (inputs-from m n v k h s.begins 0 (omega arith)
       ∙ tabulate-same s.begins (λ i. units n (0 + i * k) k) (λ i. units n (i * k) k)
       (λ i q. ap (λ (x : ℕ). units n x k) (zero-add (i * k))))
 
   -- the shares
-  pub masked-begins : (c : ℕ) (s : Scope) → s.width ≡ 1 → s.begins ≡ c * k → c * k ≤ v
+  pub masked_begins : (c : ℕ) (s : Scope) → s.width ≡ 1 → s.begins ≡ c * k → c * k ≤ v
       → beginning n s ≡ poured (lots k c (tabulate v (variable n)))
   unfolding beginning
-  masked-begins c s e g l =
+  masked_begins c s e g l =
       ap₂ (λ (x y : ℕ). tabulate y (λ i. units n (i * x) x)) e g
       ∙ tabulate-same (c * k) (λ i. units n (i * 1) 1) (variable n) (λ i q. ap (variable n) (mul-one i))
       ∙ sym (poured-lots k c (tabulate v (variable n)) ∙ tabulate-take (variable n) v (c * k) l)
 
   -- the variables of the masked block are all of them
   pub masked-variables : (c : ℕ) (s : Scope) → s.drawn ≡ v
-      → variablesOf n s ≡ poured (lots k c (tabulate v (variable n))) ++ behind k c (tabulate v (variable n))
-  unfolding variablesOf
+      → variables_of n s ≡ poured (lots k c (tabulate v (variable n))) ++ behind k c (tabulate v (variable n))
+  unfolding variables_of
   masked-variables c s e = ap (λ (x : ℕ). tabulate x (variable n)) e ∙ sym (lots-behind k c (tabulate v (variable n)))

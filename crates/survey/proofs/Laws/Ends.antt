@@ -14,8 +14,8 @@ use Rattle.verdict.specs.Instances.{polynomials}
 use Rattle.values.specs.declared.shelf.Shelf.{Shelf}
 use Rattle.values.specs.declared.source.Scope.{Scope}
 use Rattle.values.specs.Shelf.{stored, value_of}
-use Rattle.values.specs.Source.{beginning, variablesOf, visible, reach}
-use Rattle.survey.specs.Walk.{topIn, part, Holds}
+use Rattle.values.specs.Source.{beginning, variables_of, visible, reach}
+use Rattle.survey.specs.Walk.{top_in, part, Holds}
 use Rattle.verdict.proofs.Laws.Lists.{length-tabulate}
 
 -- where a block begins, its statements may read what it begins with
@@ -37,13 +37,13 @@ module _ {m : ℕ} {maps : List AffineMap} {statements : List Statement} {from t
 
   -- the values of the block
   pub walk-values : reach w left d s
-      ≡ values (polynomials m (w - 1)) maps (variablesOf (w - 1) s) (reach w left₀ d₀ s) (part statements from to)
+      ≡ values (polynomials m (w - 1)) maps (variables_of (w - 1) s) (reach w left₀ d₀ s) (part statements from to)
   unfolding values
-  walk-values = sym (ap (values (polynomials m (w - 1)) maps (variablesOf (w - 1) s) (reach w left d s)) none_left)
+  walk-values = sym (ap (values (polynomials m (w - 1)) maps (variables_of (w - 1) s) (reach w left d s)) none_left)
       ∙ H.rest
 
   -- what stands
-  pub walk_top : d.top ≡ topIn m (w - 1) maps (variablesOf (w - 1) s) (reach w left₀ d₀ s) d₀.top
+  pub walk_top : d.top ≡ top_in m (w - 1) maps (variables_of (w - 1) s) (reach w left₀ d₀ s) d₀.top
       (part statements from to)
-  unfolding topIn
-  walk_top = sym (ap (topIn m (w - 1) maps (variablesOf (w - 1) s) (reach w left d s) d.top) none_left) ∙ H.stands
+  unfolding top_in
+  walk_top = sym (ap (top_in m (w - 1) maps (variables_of (w - 1) s) (reach w left d s) d.top) none_left) ∙ H.stands

@@ -9,12 +9,12 @@ use lib.ListN.{length, take, get_or, set, replicate, length-take, length-set, le
 use lib.ListN.{get_or-eq_default}
 use lib.Seq.{get_or-set_same, get_or-set_other, get_or-take, ext_get_or}
 use Rattle.field.specs.Field.{times, squared}
-use Rattle.field.specs.Maps.{list_of, dualOf, coefficient, coefficients, coefficientsOf}
+use Rattle.field.specs.Maps.{list_of, dual_of, coefficient, coefficients, coefficients_of}
 use Rattle.field.proofs.Laws.Linear.{at_zero}
 use Rattle.field.proofs.Laws.Product.{times-left}
-use Rattle.field.proofs.Laws.Sums.{sum-cong, sum-zero}
+use Rattle.field.proofs.Laws.Sums.{sum_cong, sum-zero}
 use Rattle.rules.specs.declared.types.AffineMap.{AffineMap}
-use Rattle.verdict.specs.Meaning.{mapAt}
+use Rattle.verdict.specs.Meaning.{map_at}
 use Rattle.verdict.proofs.Laws.Parts.{get_d_front}
 use Rattle.survey.specs.Table.{Listed, Constants}
 use Rattle.values.specs.Raw.{Tabled}
@@ -40,22 +40,22 @@ zero-times : (m b : ℕ) → times m 0 b ≡ 0
 zero-times m b = at_zero (λ a. times m a b) (times-left m b).spread
 
 -- they are 0, over any modulus
-zero-coefficients : (m : ℕ) → coefficientsOf m (replicate 8 0) ≡ replicate 8 0
-unfolding coefficientsOf coefficients coefficient
+zero-coefficients : (m : ℕ) → coefficients_of m (replicate 8 0) ≡ replicate 8 0
+unfolding coefficients_of coefficients coefficient
 zero-coefficients m =
-    zeros-list 8 (coefficient (times m) (dualOf m) (replicate 8 0))
-    (λ j. sum-cong 8 (λ i l.
-    ap (λ (x : ℕ). times m x (squared (times m) j (get_or (dualOf m) i 0))) (get_or-replicate 8 i 0 0 l)
-    ∙ zero-times m (squared (times m) j (get_or (dualOf m) i 0))) ∙ sum-zero 8)
+    zeros-list 8 (coefficient (times m) (dual_of m) (replicate 8 0))
+    (λ j. sum_cong 8 (λ i l.
+    ap (λ (x : ℕ). times m x (squared (times m) j (get_or (dual_of m) i 0))) (get_or-replicate 8 i 0 0 l)
+    ∙ zero-times m (squared (times m) j (get_or (dual_of m) i 0))) ∙ sum-zero 8)
 
 -- ---- the tables of the first f maps
 
 -- the next map changes no other place
-map-kept : (maps : List AffineMap) (f i : ℕ) → (i ≡ f → ⊥) → mapAt (take f maps) i ≡ mapAt (take (f + 1) maps) i
-unfolding mapAt
+map-kept : (maps : List AffineMap) (f i : ℕ) → (i ≡ f → ⊥) → map_at (take f maps) i ≡ map_at (take (f + 1) maps) i
+unfolding map_at
 map-kept maps f i q = go (dec_lt i f)
   where
-    go : Dec (i < f) → mapAt (take f maps) i ≡ mapAt (take (f + 1) maps) i
+    go : Dec (i < f) → map_at (take f maps) i ≡ map_at (take (f + 1) maps) i
     go (yes h) = get_or-take f maps i _ h ∙ sym (get_or-take (f + 1) maps i _ (omega arith))
     go (no h) =
         get_or-eq_default (take f maps) _ (rw length-take (omega arith))
@@ -63,7 +63,7 @@ map-kept maps f i q = go (dec_lt i f)
 
 -- no map is listed yet
 pub listed-none : (m : ℕ) (maps : List AffineMap) → Listed m (take 0 maps) (replicate 8 (replicate 8 0)) 8
-unfolding mapAt
+unfolding map_at
 listed-none m maps = record {
   size = refl;
   rows = λ f h. get_or-replicate 8 f (replicate 8 0) [] h ∙ sym (zero-coefficients m);
@@ -71,34 +71,34 @@ listed-none m maps = record {
 
 -- one map's coefficients more
 pub listed_more : (m : ℕ) (maps : List AffineMap) (lists : List (List ℕ)) (f : ℕ) (row : List ℕ) → f < 8
-    → row ≡ coefficientsOf m (mapAt (take (f + 1) maps) f).columns
+    → row ≡ coefficients_of m (map_at (take (f + 1) maps) f).columns
     → Listed m (take f maps) lists 8 → Listed m (take (f + 1) maps) (set lists f row) 8
 listed_more m maps lists f row h e l = record {
   size = length-set lists f row ∙ l.size;
-  rows = λ i n. set_at lists (λ j. coefficientsOf m (mapAt (take (f + 1) maps) j).columns) f row []
+  rows = λ i n. set_at lists (λ j. coefficients_of m (map_at (take (f + 1) maps) j).columns) f row []
       (omega (arith, l.size)) e i
-      (λ q. l.rows i n ∙ ap (λ (x : AffineMap). coefficientsOf m x.columns) (map-kept maps f i q));
+      (λ q. l.rows i n ∙ ap (λ (x : AffineMap). coefficients_of m x.columns) (map-kept maps f i q));
 }
 
 -- no constant is listed yet
-pub constants-none : (maps : List AffineMap) → Constants (take 0 maps) (replicate 8 0) 8
-unfolding mapAt
-constants-none maps = record { size = refl; entries = λ f h. get_or-replicate 8 f 0 0 h }
+pub constants_none : (maps : List AffineMap) → Constants (take 0 maps) (replicate 8 0) 8
+unfolding map_at
+constants_none maps = record { size = refl; entries = λ f h. get_or-replicate 8 f 0 0 h }
 
 -- one map's constant more
-pub constants-more : (maps : List AffineMap) (constants : List ℕ) (f c : ℕ) → f < 8
-    → c ≡ (mapAt (take (f + 1) maps) f).constant
+pub constants_more : (maps : List AffineMap) (constants : List ℕ) (f c : ℕ) → f < 8
+    → c ≡ (map_at (take (f + 1) maps) f).constant
     → Constants (take f maps) constants 8 → Constants (take (f + 1) maps) (set constants f c) 8
-constants-more maps constants f c h e l = record {
+constants_more maps constants f c h e l = record {
   size = length-set constants f c ∙ l.size;
-  entries = λ i n. set_at constants (λ j. (mapAt (take (f + 1) maps) j).constant) f c 0 (omega (arith, l.size)) e i
+  entries = λ i n. set_at constants (λ j. (map_at (take (f + 1) maps) j).constant) f c 0 (omega (arith, l.size)) e i
       (λ q. l.entries i n ∙ ap (λ (x : AffineMap). x.constant) (map-kept maps f i q));
 }
 
 -- the next map is the one that is read
 pub map_next : (maps : List AffineMap) (f : ℕ) (d : AffineMap) → f < length maps
-    → get_or maps f d ≡ mapAt (take (f + 1) maps) f
-unfolding mapAt
+    → get_or maps f d ≡ map_at (take (f + 1) maps) f
+unfolding map_at
 map_next maps f d h = get_d_front (f + 1) maps f d _ (omega arith) h
 
 -- both tables are what a walk asks
@@ -116,12 +116,12 @@ pub record Clearing (b₀ b : List ℕ) (i : ℕ) : Type 0 where
   pub zeros : (j : ℕ) → j < i → get_or b j 0 ≡ 0
 
 -- no byte is cleared yet
-pub clearing-none : (b : List ℕ) → Clearing b b 0
-clearing-none b = record { within = omega arith; size = refl; zeros = λ j h. absurd (omega arith) }
+pub clearing_none : (b : List ℕ) → Clearing b b 0
+clearing_none b = record { within = omega arith; size = refl; zeros = λ j h. absurd (omega arith) }
 
 -- one byte more
-pub clearing-more : (b₀ b : List ℕ) (i : ℕ) → i < length b → Clearing b₀ b i → Clearing b₀ (set b i 0) (i + 1)
-clearing-more b₀ b i h c = record {
+pub clearing_more : (b₀ b : List ℕ) (i : ℕ) → i < length b → Clearing b₀ b i → Clearing b₀ (set b i 0) (i + 1)
+clearing_more b₀ b i h c = record {
   within = omega (arith, c.size);
   size = length-set b i 0 ∙ c.size;
   zeros = λ j n. set_at b (λ k. 0) i 0 0 h refl j (λ q. c.zeros j (omega arith));

@@ -9,10 +9,10 @@ use mathlib.Core.List.{List, [], ◌∷◌, ◌++◌, map, append_assoc, append-
 use lib.ListN.{length, take, drop, get_or, length-append}
 use Rattle.field.specs.Field.{Modulus}
 use Rattle.field.specs.Laws.{gf}
-use Rattle.field.proofs.Laws.Field.{gf-laws}
-use Rattle.poly.specs.Poly.{Poly, normal, addPoly, into}
+use Rattle.field.proofs.Laws.Field.{gf_laws}
+use Rattle.poly.specs.Poly.{Poly, normal, add_poly, into}
 use Rattle.poly.specs.Canon.{Raw}
-use Rattle.poly.proofs.Laws.Sum.{raw-append, sum-normal-right}
+use Rattle.poly.proofs.Laws.Sum.{raw_append, sum-normal-right}
 use Rattle.rules.specs.Formed.{Each}
 use Rattle.verdict.specs.Lists.{poured}
 use Rattle.verdict.specs.Meaning.{joined, operand, value_at}
@@ -23,45 +23,45 @@ use Rattle.values.specs.declared.shelf.Shelf.{Shelf}
 use Rattle.values.specs.declared.source.Source.{Source}
 use Rattle.values.specs.declared.source.Scope.{Scope}
 use Rattle.values.specs.Shelf.{Laid}
-use Rattle.values.specs.Source.{source_of, sourceSize, Located}
+use Rattle.values.specs.Source.{source_of, source_size, Located}
 use Rattle.values.specs.Load.{LayAsked, LoadAsked}
 use Rattle.buffer.specs.Insert.{Holds, AddAsked}
-use Rattle.buffer.specs.Buffer.{readTerms}
+use Rattle.buffer.specs.Buffer.{read_terms}
 use Rattle.poly.proofs.Laws.Sum.{into-none}
-use Rattle.values.proofs.Laws.Forming.{back, laid_end, end-room}
-use Rattle.survey.specs.Difference.{placed, outputTerms, OutputsAsked, OutputsLaid, OutputsSized}
-use Rattle.values.specs.Raw.{mostStanding, OperandSized}
+use Rattle.values.proofs.Laws.Forming.{back, laid_end, end_room}
+use Rattle.survey.specs.Difference.{placed, output_terms, OutputsAsked, OutputsLaid, OutputsSized}
+use Rattle.values.specs.Raw.{most_standing, OperandSized}
 use Rattle.values.proofs.Laws.Sources.{source-length}
-use Rattle.values.proofs.Laws.Laying.{laid_none, laid-append}
+use Rattle.values.proofs.Laws.Laying.{laid_none, laid_append}
 
 -- ---- the first i outputs, one behind the other
 
 module _ (f : ℕ → Poly) where
   -- the terms of the first i outputs
-  abbrev pub laidOutputs : List ℕ → ℕ → Poly
-  laidOutputs o i = poured (map f (take i o))
+  abbrev pub laid_outputs : List ℕ → ℕ → Poly
+  laid_outputs o i = poured (map f (take i o))
 
-  more : (o : List ℕ) (i : ℕ) → i < length o → laidOutputs o (suc i) ≡ laidOutputs o i ++ f (get_or o i 0)
+  more : (o : List ℕ) (i : ℕ) → i < length o → laid_outputs o (suc i) ≡ laid_outputs o i ++ f (get_or o i 0)
   more [] i h = absurd (omega arith)
   more (x ∷ o) zero h = append-nil (f x)
   more (x ∷ o) (suc i) h = ap (λ (p : Poly). f x ++ p) (more o i (le_of_suc-le-suc h))
-      ∙ sym (append_assoc (f x) (laidOutputs o i) (f (get_or o i 0)))
+      ∙ sym (append_assoc (f x) (laid_outputs o i) (f (get_or o i 0)))
 
   -- one output more
-  pub outputs-more : (o : List ℕ) (i : ℕ) → i < length o → laidOutputs o (i + 1) ≡ laidOutputs o i ++ f (get_or o i 0)
-  outputs-more o i h = ap (laidOutputs o) (add-one i) ∙ more o i h
+  pub outputs-more : (o : List ℕ) (i : ℕ) → i < length o → laid_outputs o (i + 1) ≡ laid_outputs o i ++ f (get_or o i 0)
+  outputs-more o i h = ap (laid_outputs o) (add-one i) ∙ more o i h
 
   -- it has room where all of them have
   pub outputs-room : (o : List ℕ) (i n : ℕ) → i < n → n ≤ length o
-      → length (laidOutputs o i) + length (f (get_or o i 0)) ≤ length (laidOutputs o n)
+      → length (laid_outputs o i) + length (f (get_or o i 0)) ≤ length (laid_outputs o n)
   outputs-room [] i n h k = absurd (omega arith)
   outputs-room (x ∷ o) i zero h k = absurd (omega arith)
-  outputs-room (x ∷ o) zero (suc n) h k = omega (arith, length-append (f x) (laidOutputs o n))
+  outputs-room (x ∷ o) zero (suc n) h k = omega (arith, length-append (f x) (laid_outputs o n))
   outputs-room (x ∷ o) (suc i) (suc n) h k =
       omega (
         arith,
-        length-append (f x) (laidOutputs o n),
-        length-append (f x) (laidOutputs o i),
+        length-append (f x) (laid_outputs o n),
+        length-append (f x) (laid_outputs o i),
         outputs-room o i n
             (le_of_suc-le-suc h) (le_of_suc-le-suc k),
       )
@@ -71,21 +71,21 @@ module _ (f : ℕ → Poly) where
 module _ (m n : ℕ) (M : Modulus m) where
   raw-poured : (ps : List Poly) → Each (Raw n) ps → Raw n (poured ps)
   raw-poured [] h = record { coefs = tt; powers = tt }
-  raw-poured (p ∷ ps) h = raw-append p (poured ps) h.0 (raw-poured ps h.1)
+  raw-poured (p ∷ ps) h = raw_append p (poured ps) h.0 (raw-poured ps h.1)
 
   -- the XOR of polynomials is one sum of all their terms
   pub joined-normal : (ps : List Poly) → Each (Raw n) ps → joined (polynomials m n) ps ≡ normal (gf m) (poured ps)
   unfolding joined polynomials
   joined-normal [] h = refl
   joined-normal (p ∷ ps) h =
-      ap (addPoly (gf m) p) (joined-normal ps h.1)
-      ∙ sum-normal-right (gf m) (gf-laws M) p (poured ps) h.0 (raw-poured ps h.1)
+      ap (add_poly (gf m) p) (joined-normal ps h.1)
+      ∙ sum-normal-right (gf m) (gf_laws M) p (poured ps) h.0 (raw-poured ps h.1)
 
   -- the difference is one sum of the terms of the result and of all outputs
   pub difference-normal : (p : Poly) (ps : List Poly) → Raw n p → Each (Raw n) ps
-      → addPoly (gf m) p (joined (polynomials m n) ps) ≡ normal (gf m) (p ++ poured ps)
+      → add_poly (gf m) p (joined (polynomials m n) ps) ≡ normal (gf m) (p ++ poured ps)
   difference-normal p ps r h =
-      ap (addPoly (gf m) p) (joined-normal ps h) ∙ sum-normal-right (gf m) (gf-laws M) p (poured ps) r (raw-poured ps h)
+      ap (add_poly (gf m) p) (joined-normal ps h) ∙ sum-normal-right (gf m) (gf_laws M) p (poured ps) r (raw-poured ps h)
 
 -- ---- the loop of `load_outputs`
 
@@ -93,7 +93,7 @@ module _ {left outputs : List ℕ} {named : ℕ} {s : Scope} {d : Shelf} {right�
     (long : length outputs ≡ 8)
     (Q : OutputsAsked left outputs named s d right₀ from w) where
   abbrev terms : ℕ → Poly
-  terms i = outputTerms w left d s outputs i
+  terms i = output_terms w left d s outputs i
 
   abbrev Done : ℕ → List ℕ → ℕ → Type 0
   Done i right k = OutputsLaid left outputs i s d right₀ right from w k
@@ -108,13 +108,13 @@ module _ {left outputs : List ℕ} {named : ℕ} {s : Scope} {d : Shelf} {right�
     unfolding operand value_at polynomials
     found = L.means 0 w left
 
-    size_is : length (placed w left d s (get_or outputs i 0)) ≡ sourceSize r
+    size_is : length (placed w left d s (get_or outputs i 0)) ≡ source_size r
     size_is = ap length (sym found) ∙ source-length w left r
 
     inside : i < length outputs
     inside = omega (arith, Q.few)
 
-    fits_in : k + sourceSize r ≤ from + length (terms named)
+    fits_in : k + source_size r ≤ from + length (terms named)
     fits_in = omega (
       arith,
       H.count,
@@ -137,38 +137,38 @@ module _ {left outputs : List ℕ} {named : ℕ} {s : Scope} {d : Shelf} {right�
     }
 
     -- the count stays a small number
-    pub output-small : k + sourceSize r ≤ length right₀
+    pub output-small : k + source_size r ≤ length right₀
     output-small = omega (arith, fits_in, Q.room, row_count (from + length (terms named)) w (omega (arith, Q.wide)))
 
     -- one output more is laid
-    pub output-more : (right' : List ℕ) (z : ℕ) → z ≡ sourceSize r
-        → Laid w right right' k (sourceSize r) (source_of w left r) → Done (i + 1) right' (k + z)
+    pub output-more : (right' : List ℕ) (z : ℕ) → z ≡ source_size r
+        → Laid w right right' k (source_size r) (source_of w left r) → Done (i + 1) right' (k + z)
     output-more right' z e h =
         let t : terms (i + 1) ≡ terms i ++ placed w left d s (get_or outputs i 0) = outputs-more
         (placed w left d s) outputs i inside in
-        let n : length (terms (i + 1)) ≡ length (terms i) + sourceSize r = ap length t
+        let n : length (terms (i + 1)) ≡ length (terms i) + source_size r = ap length t
         ∙ length-append (terms i) (placed w left d s (get_or outputs i 0))
         ∙ ap (λ (x : ℕ). length (terms i) + x) size_is in
-        let g : Laid w right right' (from + length (terms i)) (sourceSize r) (placed w left d s (get_or outputs i 0)) =
-        subst (Laid w right right' (from + length (terms i)) (sourceSize r)) found
-        (subst (λ (x : ℕ). Laid w right right' x (sourceSize r) (source_of w left r)) H.count h) in
+        let g : Laid w right right' (from + length (terms i)) (source_size r) (placed w left d s (get_or outputs i 0)) =
+        subst (Laid w right right' (from + length (terms i)) (source_size r)) found
+        (subst (λ (x : ℕ). Laid w right right' x (source_size r) (source_of w left r)) H.count h) in
         record {
           count = omega (arith, n, H.count);
           laid = subst (λ (p : Poly). Laid w right₀ right' from (length (terms (i + 1))) p) (sym t)
               (subst (λ (x : ℕ). Laid w right₀ right' from x (terms i ++ placed w left d s (get_or outputs i 0))) (sym n)
-              (laid-append w right₀ right right' from (length (terms i)) (sourceSize r) (terms i)
+              (laid_append w right₀ right right' from (length (terms i)) (source_size r) (terms i)
               (placed w left d s (get_or outputs i 0)) (omega (arith, Q.wide)) H.laid g));
         }
 
 -- ---- the ways out of `form_difference`
 
 module _ {left outputs : List ℕ} {named : ℕ} {s : Scope} {d : Shelf} {right r₁ : List ℕ} {a : Source} {top w i : ℕ}
-    (e : i ≡ sourceSize a)
-    (P : LoadAsked left a right 0 w) (Q : OutputsAsked left outputs named s d right (sourceSize a) w)
-    (l : LayAsked left top (sourceSize a + length (outputTerms w left d s outputs named)) w)
-    (h : Laid w right r₁ 0 (sourceSize a) (source_of w left a)) where
+    (e : i ≡ source_size a)
+    (P : LoadAsked left a right 0 w) (Q : OutputsAsked left outputs named s d right (source_size a) w)
+    (l : LayAsked left top (source_size a + length (output_terms w left d s outputs named)) w)
+    (h : Laid w right r₁ 0 (source_size a) (source_of w left a)) where
   abbrev all : Poly
-  all = outputTerms w left d s outputs named
+  all = output_terms w left d s outputs named
 
   -- the outputs have room behind the result
   pub outputs-asked : OutputsAsked left outputs named s d r₁ i w
@@ -182,7 +182,7 @@ module _ {left outputs : List ℕ} {named : ℕ} {s : Scope} {d : Shelf} {right 
   }
 
   module _ {r₂ : List ℕ} {k : ℕ} (g : OutputsLaid left outputs named s d r₁ r₂ i w k) where
-    total : k ≡ sourceSize a + length all
+    total : k ≡ source_size a + length all
     total = g.count ∙ ap (λ (x : ℕ). x + length all) e
 
     right-size : length r₂ ≡ length right
@@ -191,31 +191,31 @@ module _ {left outputs : List ℕ} {named : ℕ} {s : Scope} {d : Shelf} {right 
     -- the sum has the room that it asks
     pub difference-asked : AddAsked (take (length left - top * w) (drop (top * w) left)) 0 r₂ k w
     difference-asked =
-        let z : 0 + k ≡ sourceSize a + length all = omega (arith, total) in
+        let z : 0 + k ≡ source_size a + length all = omega (arith, total) in
         record {
           some = P.asked.some;
           room = subst (λ (x : ℕ). x * w ≤ length (take (length left - top * w) (drop (top * w) left))) (sym z)
-              (end-room w top (sourceSize a + length all) left l);
+              (end_room w top (source_size a + length all) left l);
           source = subst (λ (x : ℕ). x * w ≤ length r₂) (sym total) (omega (arith, Q.room, right-size));
           sorted = tt;
         }
 
-    both : readTerms (w - 1) r₂ 0 k ≡ source_of w left a ++ all
+    both : read_terms (w - 1) r₂ 0 k ≡ source_of w left a ++ all
     both =
-        let z : 0 + sourceSize a ≡ sourceSize a = omega arith in
-        let u : Laid w r₁ r₂ (0 + sourceSize a) (length all) all = subst (λ (x : ℕ). Laid w r₁ r₂ x (length all) all) (e
+        let z : 0 + source_size a ≡ source_size a = omega arith in
+        let u : Laid w r₁ r₂ (0 + source_size a) (length all) all = subst (λ (x : ℕ). Laid w r₁ r₂ x (length all) all) (e
         ∙ sym z) g.laid in
-        ap₂ (λ (x y : ℕ). readTerms (w - 1) r₂ x y) (sym (zero-mul w)) total
-        ∙ (laid-append w right r₁ r₂ 0 (sourceSize a) (length all) (source_of w left a) all P.asked.some h u).terms
+        ap₂ (λ (x y : ℕ). read_terms (w - 1) r₂ x y) (sym (zero-mul w)) total
+        ∙ (laid_append w right r₁ r₂ 0 (source_size a) (length all) (source_of w left a) all P.asked.some h u).terms
 
     -- what is inserted among no terms is one sum of them all
     pub difference-formed : (m y r : ℕ) (x : List ℕ)
-        → Holds (take (length left - top * w) (drop (top * w) left)) x w y r (into (gf m) (readTerms (w - 1) r₂ 0 k) [])
+        → Holds (take (length left - top * w) (drop (top * w) left)) x w y r (into (gf m) (read_terms (w - 1) r₂ 0 k) [])
         → Laid w left (back left (top * w) x) top r (normal (gf m) (source_of w left a ++ all))
     difference-formed m y r x q =
-        laid_end w top (sourceSize a + length all) r left x _ l
+        laid_end w top (source_size a + length all) r left x _ l
         (subst (Holds (take (length left - top * w) (drop (top * w) left)) x w y r)
-        (into-none (gf m) (readTerms (w - 1) r₂ 0 k) ∙ ap (normal (gf m)) both) q)
+        (into-none (gf m) (read_terms (w - 1) r₂ 0 k) ∙ ap (normal (gf m)) both) q)
 
 -- ---- the loop of `outputs_size`
 
@@ -232,13 +232,13 @@ sized-more outputs s d i k z l h g = record {
   means = λ w b.
       ap₂ (λ (x y : ℕ). x + y) (h.means w b) (g.means 0 w b)
       ∙ sym (ap length (outputs-more (placed w b d s) outputs i l)
-      ∙ length-append (outputTerms w b d s outputs i) (placed w b d s (get_or outputs i 0)));
-  most = omega (arith, h.most, g.most, row_next i mostStanding);
+      ∙ length-append (output_terms w b d s outputs i) (placed w b d s (get_or outputs i 0)));
+  most = omega (arith, h.most, g.most, row_next i most_standing);
 }
   where
     row_next : (i w : ℕ) → (i + 1) * w ≡ i * w + w
     row_next i w = rw (add-one, suc-mul)
 
 -- the count stays a small number
-pub sized-small : (i k z : ℕ) → i ≤ 8 → k ≤ i * mostStanding → z ≤ mostStanding → k + z ≤ 9 * mostStanding
-sized-small i k z h g f = omega (arith, mul-le-mul_right mostStanding h)
+pub sized-small : (i k z : ℕ) → i ≤ 8 → k ≤ i * most_standing → z ≤ most_standing → k + z ≤ 9 * most_standing
+sized-small i k z h g f = omega (arith, mul-le-mul_right most_standing h)

@@ -19,11 +19,11 @@ use Rattle.values.specs.declared.shelf.Shelf.{Shelf}
 use Rattle.values.specs.declared.source.Scope.{Scope}
 use Rattle.values.specs.declared.found.Found.{Found}
 use Rattle.values.specs.Shelf.{stored, value_of, shelved, Laid}
-use Rattle.values.specs.Source.{beginning, variablesOf, visible, reach, Narrow}
-use Rattle.values.specs.Raw.{mostStanding, rawIn, Inside}
-use Rattle.values.specs.Found.{foundValue, foundSize, FoundFor, RawAsked}
+use Rattle.values.specs.Source.{beginning, variables_of, visible, reach, Narrow}
+use Rattle.values.specs.Raw.{most_standing, raw_in, Inside}
+use Rattle.values.specs.Found.{found_value, found_size, FoundFor, RawAsked}
 use Rattle.values.specs.Value.{FormAsked}
-use Rattle.survey.specs.Walk.{overIn, topIn, blank, part, WalkAsked, Holds, Walked}
+use Rattle.survey.specs.Walk.{over_in, top_in, blank, part, WalkAsked, Holds, Walked}
 use Rattle.verdict.proofs.Laws.Lists.{length-tabulate}
 use Rattle.values.proofs.Laws.Shelves.{shelved-sound, stored_more}
 use Rattle.survey.proofs.Laws.Steps.{over-here, over-next, over_none, given-small}
@@ -77,7 +77,7 @@ module _ {m : ℕ} {lists : List (List ℕ)} {constants : List ℕ} {maps : List
     op = (get_or statements i blank).op
 
     abbrev raw : ℕ
-    raw = rawIn m (w - 1) maps (reach w left d s) op
+    raw = raw_in m (w - 1) maps (reach w left d s) op
 
     narrow : Narrow s d
     narrow = record {
@@ -90,23 +90,23 @@ module _ {m : ℕ} {lists : List (List ℕ)} {constants : List ℕ} {maps : List
     here = part-first statements i to blank l (omega (arith, Q.inside))
 
     -- its operands can be found
-    pub find-asked : Narrow s d × Inside s.drawn op
-    find-asked = (narrow, Q.reads i H.begun l)
+    pub find_asked : Narrow s d × Inside s.drawn op
+    find_asked = (narrow, Q.reads i H.begun l)
 
     -- its raw size can be counted
     pub raw-asked : {f : Found} → FoundFor s d op f → RawAsked f
     raw-asked z = z.small (omega (arith, H.top, Q.bounded))
 
     -- over the limit
-    pub walk-over : {f : Found} {k : ℕ} → FoundFor s d op f → k ≡ foundSize lists constants f → most - d.top < k
+    pub walk-over : {f : Found} {k : ℕ} → FoundFor s d op f → k ≡ found_size lists constants f → most - d.top < k
         → Walked m maps statements from to s d₀ left₀ w most left
         (record { over = true; line = (get_or statements i blank).line; shelf = d })
     walk-over z e h = record {
       decided =
-          sym (over-here most m (w - 1) maps (variablesOf (w - 1) s) (reach w left d s) d.top
+          sym (over-here most m (w - 1) maps (variables_of (w - 1) s) (reach w left d s) d.top
           (get_or statements i blank) (part statements (i + 1) to)
           (omega (arith, e, z.sized m w lists constants left maps Q.tabled, H.top)))
-          ∙ ap (overIn most m (w - 1) maps (variablesOf (w - 1) s) (reach w left d s) d.top) (sym here)
+          ∙ ap (over_in most m (w - 1) maps (variables_of (w - 1) s) (reach w left d s) d.top) (sym here)
           ∙ H.over;
       finished = λ e. absurd (true-not-false e);
     }
@@ -115,12 +115,12 @@ module _ {m : ℕ} {lists : List (List ℕ)} {constants : List ℕ} {maps : List
         true-not-false e = let z : ◌≡◌ {A = ℕ} 0 1 = ap (λ (b : Bool). cond b 0 1) e in absurd (omega arith)
 
     -- room for the statement
-    module _ {f : Found} {k : ℕ} (z : FoundFor s d op f) (e : k ≡ foundSize lists constants f)
+    module _ {f : Found} {k : ℕ} (z : FoundFor s d op f) (e : k ≡ found_size lists constants f)
         (fits : k ≤ most - d.top) where
-      same : foundSize lists constants f ≡ raw
+      same : found_size lists constants f ≡ raw
       same = z.sized m w lists constants left maps Q.tabled
 
-      raw-fits : d.top + foundSize lists constants f ≤ most
+      raw-fits : d.top + found_size lists constants f ≤ most
       raw-fits = omega (arith, e, H.top)
 
       -- its value has the room that it asks
@@ -139,9 +139,9 @@ module _ {m : ℕ} {lists : List (List ℕ)} {constants : List ℕ} {maps : List
       }
 
       module _ {left' : List ℕ} {j : ℕ}
-          (F : Laid w left left' d.top j (foundValue m w lists constants left f)) where
+          (F : Laid w left left' d.top j (found_value m w lists constants left f)) where
         abbrev value : Poly
-        value = given (polynomials m (w - 1)) maps (variablesOf (w - 1) s) (reach w left d s) op
+        value = given (polynomials m (w - 1)) maps (variables_of (w - 1) s) (reach w left d s) op
 
         laid : Laid w left left' d.top j value
         laid = subst (Laid w left left' d.top j) (z.means m w lists constants left maps Q.tabled) F
@@ -166,8 +166,8 @@ module _ {m : ℕ} {lists : List (List ℕ)} {constants : List ℕ} {maps : List
             )
 
         -- the directory has room for it
-        pub shelf-room : (d.count < 256) × (d.top + j ≤ mostStanding)
-        shelf-room = (below, omega (arith, small, Q.bounded))
+        pub shelf_room : (d.count < 256) × (d.top + j ≤ most_standing)
+        shelf_room = (below, omega (arith, small, Q.bounded))
 
         -- what may be read then
         reached : reach w left' (shelved d j) s ≡ reach w left d s ++ value ∷ []
@@ -177,35 +177,35 @@ module _ {m : ℕ} {lists : List (List ℕ)} {constants : List ℕ} {maps : List
         abbrev behind : List Statement
         behind = part statements (i + 1) to
 
-        rest_more : values (polynomials m (w - 1)) maps (variablesOf (w - 1) s) (reach w left' (shelved d j) s) behind
-            ≡ values (polynomials m (w - 1)) maps (variablesOf (w - 1) s) (reach w left₀ d₀ s) (part statements from to)
+        rest_more : values (polynomials m (w - 1)) maps (variables_of (w - 1) s) (reach w left' (shelved d j) s) behind
+            ≡ values (polynomials m (w - 1)) maps (variables_of (w - 1) s) (reach w left₀ d₀ s) (part statements from to)
         unfolding values
         rest_more =
-            ap (λ (vs : List Poly). values (polynomials m (w - 1)) maps (variablesOf (w - 1) s) vs behind) reached
-            ∙ ap (values (polynomials m (w - 1)) maps (variablesOf (w - 1) s) (reach w left d s)) (sym here)
+            ap (λ (vs : List Poly). values (polynomials m (w - 1)) maps (variables_of (w - 1) s) vs behind) reached
+            ∙ ap (values (polynomials m (w - 1)) maps (variables_of (w - 1) s) (reach w left d s)) (sym here)
             ∙ H.rest
 
-        over-more : overIn most m (w - 1) maps (variablesOf (w - 1) s) (reach w left' (shelved d j) s)
+        over-more : over_in most m (w - 1) maps (variables_of (w - 1) s) (reach w left' (shelved d j) s)
             (d.top + j) behind
-            ≡ overIn most m (w - 1) maps (variablesOf (w - 1) s) (reach w left₀ d₀ s) d₀.top
+            ≡ over_in most m (w - 1) maps (variables_of (w - 1) s) (reach w left₀ d₀ s) d₀.top
             (part statements from to)
         over-more =
-            ap (λ (vs : List Poly). overIn most m (w - 1) maps (variablesOf (w - 1) s) vs (d.top + j) behind) reached
-            ∙ over-next most m (w - 1) maps (variablesOf (w - 1) s) (reach w left d s) d.top
+            ap (λ (vs : List Poly). over_in most m (w - 1) maps (variables_of (w - 1) s) vs (d.top + j) behind) reached
+            ∙ over-next most m (w - 1) maps (variables_of (w - 1) s) (reach w left d s) d.top
             (get_or statements i blank)
             behind value j refl value-length (omega (arith, raw-fits, same))
-            ∙ ap (overIn most m (w - 1) maps (variablesOf (w - 1) s) (reach w left d s) d.top) (sym here)
+            ∙ ap (over_in most m (w - 1) maps (variables_of (w - 1) s) (reach w left d s) d.top) (sym here)
             ∙ H.over
 
-        stands-more : topIn m (w - 1) maps (variablesOf (w - 1) s) (reach w left' (shelved d j) s) (d.top + j) behind
-            ≡ topIn m (w - 1) maps (variablesOf (w - 1) s) (reach w left₀ d₀ s) d₀.top (part statements from to)
-        unfolding topIn
+        stands-more : top_in m (w - 1) maps (variables_of (w - 1) s) (reach w left' (shelved d j) s) (d.top + j) behind
+            ≡ top_in m (w - 1) maps (variables_of (w - 1) s) (reach w left₀ d₀ s) d₀.top (part statements from to)
+        unfolding top_in
         stands-more =
-            ap (λ (vs : List Poly). topIn m (w - 1) maps (variablesOf (w - 1) s) vs (d.top + j) behind) reached
-            ∙ ap (λ (u : ℕ). topIn m (w - 1) maps (variablesOf (w - 1) s) (reach w left d s ++ value ∷ [])
+            ap (λ (vs : List Poly). top_in m (w - 1) maps (variables_of (w - 1) s) vs (d.top + j) behind) reached
+            ∙ ap (λ (u : ℕ). top_in m (w - 1) maps (variables_of (w - 1) s) (reach w left d s ++ value ∷ [])
             (d.top + u) behind)
             (sym value-length)
-            ∙ ap (topIn m (w - 1) maps (variablesOf (w - 1) s) (reach w left d s) d.top) (sym here)
+            ∙ ap (top_in m (w - 1) maps (variables_of (w - 1) s) (reach w left d s) d.top) (sym here)
             ∙ H.stands
 
         -- one statement more is walked
@@ -231,7 +231,7 @@ module _ {m : ℕ} {lists : List (List ℕ)} {constants : List ℕ} {maps : List
       let e : i ≡ to = omega (arith, H.within) in
       let G : Now to left d = subst (λ (x : ℕ). Now x left d) e H in
       record {
-        decided = sym (over_none most m (w - 1) maps (variablesOf (w - 1) s) (reach w left d s) d.top statements to)
+        decided = sym (over_none most m (w - 1) maps (variables_of (w - 1) s) (reach w left d s) d.top statements to)
             ∙ G.over;
         finished = λ h. G;
       }

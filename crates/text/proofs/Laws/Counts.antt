@@ -5,7 +5,7 @@ use mathlib.Core.Path.{◌≡◌, sym, ◌∙◌, subst}
 use mathlib.Core.List.{List}
 use borrow.Author.Tests.{eq-eqb}
 use Rattle.text.specs.declared.read.Reading as answer
-use Rattle.rules.specs.Read.{Routine, Reading, accepted, readText}
+use Rattle.rules.specs.Read.{Routine, Reading, accepted, read_text}
 use Rattle.text.specs.Routine.{routine_of, Counted}
 use Rattle.text.specs.Reading.{reading_of, ReadingIs}
 use Rattle.rules.specs.Formed.{Formed}
@@ -13,38 +13,38 @@ use Rattle.rules.specs.Ranged.{Ranged, Limited}
 use Rattle.rules.proofs.Laws.Keeping.{Accepts}
 use Rattle.rules.proofs.Laws.Formed.{read-formed}
 use Rattle.rules.proofs.Laws.Ranged.{read-ranged}
-use Rattle.rules.proofs.Laws.Limits.{read-limited}
+use Rattle.rules.proofs.Laws.Limits.{read_limited}
 
 -- an accepted text
-pub reading-accepted : (r : answer.Reading) → r.refusal ≡ 0 → reading_of r ≡ accepted (routine_of r.routine)
+pub reading_accepted : (r : answer.Reading) → r.refusal ≡ 0 → reading_of r ≡ accepted (routine_of r.routine)
 unfolding reading_of
-reading-accepted r z = simp (eq-eqb r.refusal 0 z)
+reading_accepted r z = simp (eq-eqb r.refusal 0 z)
 
-module _ (s : List ℕ) (r : answer.Reading) (R : ReadingIs r (readText s)) (z : r.refusal ≡ 0) where
+module _ (s : List ℕ) (r : answer.Reading) (R : ReadingIs r (read_text s)) (z : r.refusal ≡ 0) where
   -- what holds of the routine of every accepted text holds of this one
-  reading-keeps : (P : Routine → Type 0) → ((text : List ℕ) → Accepts P (readText text)) → P (routine_of r.routine)
-  reading-keeps P h = subst (λ (x : Reading). Accepts P x) (sym R.answer ∙ reading-accepted r z) (h s)
+  reading_keeps : (P : Routine → Type 0) → ((text : List ℕ) → Accepts P (read_text text)) → P (routine_of r.routine)
+  reading_keeps P h = subst (λ (x : Reading). Accepts P x) (sym R.answer ∙ reading_accepted r z) (h s)
 
   -- constants are bytes, maps have eight columns, and the inputs' shares are variables, at most 16
-  pub reading-formed : Formed (routine_of r.routine)
-  reading-formed = reading-keeps Formed read-formed
+  pub reading_formed : Formed (routine_of r.routine)
+  reading_formed = reading_keeps Formed read-formed
 
   -- each place that is read is given above, and each map and variable is one of the routine's
-  pub reading-ranged : Ranged (routine_of r.routine)
-  reading-ranged = reading-keeps Ranged read-ranged
+  pub reading_ranged : Ranged (routine_of r.routine)
+  reading_ranged = reading_keeps Ranged read-ranged
 
   -- the counts are within the limits
-  pub reading-limited : Limited (routine_of r.routine)
-  reading-limited = reading-keeps Limited read-limited
+  pub reading_limited : Limited (routine_of r.routine)
+  reading_limited = reading_keeps Limited read_limited
 
   -- so are the counts of the code's arrays
-  pub reading-counted : Counted r.routine
+  pub reading_counted : Counted r.routine
   unfolding routine_of
-  reading-counted =
+  reading_counted =
       record {
         maps = R.held.mapped;
         inputs = R.held.inputs;
-        fits = reading-formed.fits;
+        fits = reading_formed.fits;
         room = R.held.variables;
         statements = R.held.statements;
         outputs = R.held.named;

@@ -10,26 +10,26 @@ use denote.Ref.{Bor}
 use Rattle.reader.specs.declared.cursor.Cursor.{Cursor}
 use Rattle.reader.specs.declared.reader.Reader.{Reader}
 use Rattle.reader.specs.Handed.{opened}
-use Rattle.tokens.specs.Ascii.{lineFeed}
+use Rattle.tokens.specs.Ascii.{line_feed}
 use Rattle.tokens.specs.Split.{pieces}
 use Rattle.reader.proofs.Laws.Handed.{placed_same}
-use Rattle.rules.specs.Limits.{mostBytes}
+use Rattle.rules.specs.Limits.{most_bytes}
 use Rattle.rules.specs.State.{start}
 use Rattle.text.specs.declared.read.Reading as answer
-use Rattle.rules.specs.Read.{Reading, refused, takeLines, readText}
+use Rattle.rules.specs.Read.{Reading, refused, take_lines, read_text}
 use Rattle.text.specs.Reading.{ReadingIs}
-use Rattle.text.specs.From.{readFrom, ReadsOn}
+use Rattle.text.specs.From.{read_from, ReadsOn}
 
 -- from the start on, the lines of a text give what the text gives
-pub read-start : (s : List ℕ) → readFrom s 0 0 ≡ readText s
-unfolding readFrom readText
+pub read-start : (s : List ℕ) → read_from s 0 0 ≡ read_text s
+unfolding read_from read_text
 read-start s =
-    ap (λ (p : Cursor). cond (ltb mostBytes (length s)) (refused 2 0)
-    (takeLines start p.line (pieces lineFeed (drop p.at s))))
+    ap (λ (p : Cursor). cond (ltb most_bytes (length s)) (refused 2 0)
+    (take_lines start p.line (pieces line_feed (drop p.at s))))
     (placed_same s (record { at = 0; line = 0 }) (omega arith) (omega arith))
 
 -- a reader opened on a text reads what the text gives
 pub opened-reads : (s : Bor (List ℕ)) (r : Reader) (d : answer.Reading) → r ≡ opened s → ReadsOn r d
-    → ReadingIs d (readText s.now)
+    → ReadingIs d (read_text s.now)
 opened-reads s r d e R =
     subst (λ (x : Reading). ReadingIs d x) (read-start s.now) (subst (λ (q : Reader). ReadsOn q d) e R)

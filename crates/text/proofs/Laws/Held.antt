@@ -23,6 +23,6 @@ pub nothing-held : (q : Routine) → q ≡ nothing → Held q
 nothing-held q e = subst Held (sym e) none-held
 
 -- a refusal's number is not 0
-pub reading-refused : (q : Reading) → (q.refusal ≡ 0 → ⊥) → reading_of q ≡ refused q.refusal q.line
+pub reading_refused : (q : Reading) → (q.refusal ≡ 0 → ⊥) → reading_of q ≡ refused q.refusal q.line
 unfolding reading_of
-reading-refused q h = simp (ne_eqb q.refusal 0 h)
+reading_refused q h = simp (ne_eqb q.refusal 0 h)

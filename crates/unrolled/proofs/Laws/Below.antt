@@ -14,27 +14,27 @@ use Rattle.tokens.specs.Token.{Name}
 use Rattle.tokens.proofs.Laws.Some.{some_same}
 use Rattle.grammar.specs.Formula.{Formula}
 use Rattle.grammar.specs.Record.{Record, Form, assign, letting}
-use Rattle.grammar.proofs.Laws.Made.{Made, made-shares, made-map, made-input, made-origin, made-assign, made-let}
+use Rattle.grammar.proofs.Laws.Made.{Made, made-shares, made-map, made-input, made-origin, made-assign, made_let}
 use Rattle.grammar.proofs.Laws.Made.{made-result, made-masked, made-output, line_made}
-use Rattle.rules.specs.Order.{inMasked}
+use Rattle.rules.specs.Order.{in_masked}
 use Rattle.rules.specs.State.{State}
-use Rattle.rules.specs.Grown.{atStage, withShares, withMap, withInput, withResult, withOutputs}
+use Rattle.rules.specs.Grown.{at_stage, with_shares, with_map, with_input, with_result, with_outputs}
 use Rattle.rules.specs.Stated.{unnamed}
-use Rattle.rules.specs.Scope.{drawn, shareNames}
+use Rattle.rules.specs.Scope.{drawn, share_names}
 use Rattle.rules.specs.Added.{added}
 use Rattle.unrolled.proofs.Laws.Set.{In, in_left}
-use Rattle.unrolled.proofs.Laws.Steps.{leadsTo, wordOn, line_taken}
+use Rattle.unrolled.proofs.Laws.Steps.{leads_to, word_on, line_taken}
 use Rattle.unrolled.proofs.Laws.Runs.{runs, runs-first}
-use Rattle.unrolled.proofs.Laws.Blocks.{names_of, grown-names, drawing, statementAt, assign-adds}
-use Rattle.unrolled.proofs.Laws.Blocks.{statementsAt, let-adds}
+use Rattle.unrolled.proofs.Laws.Blocks.{names_of, grown-names, drawing, statement_at, assign-adds}
+use Rattle.unrolled.proofs.Laws.Blocks.{statements_at, let_adds}
 
 -- the second has the names of the first, and more behind them
 abbrev pub Longer : State → State → Type 0
 Longer s t = (b : Bool) → (more : List Name) × (names_of b t ≡ names_of b s ++ more)
 
 -- a stage has no names
-pub stage-names : (b : Bool) (k : ℕ) (s : State) → names_of b (atStage k s) ≡ names_of b s
-unfolding names_of atStage
+pub stage-names : (b : Bool) (k : ℕ) (s : State) → names_of b (at_stage k s) ≡ names_of b s
+unfolding names_of at_stage
 stage-names true k s = refl
 stage-names false k s = refl
 
@@ -59,32 +59,32 @@ none-longer s t e f =
     two-longer s t [] [] (e ∙ sym (append-nil s.origin.names)) (f ∙ sym (append-nil s.masked.names))
 
 -- what a statement adds
-assign-longer : (s : State) (n k : ℕ) (x : Name) (f : Form) → Longer s (atStage k (added n (assign x f) s))
+assign-longer : (s : State) (n k : ℕ) (x : Name) (f : Form) → Longer s (at_stage k (added n (assign x f) s))
 assign-longer s n k x f b =
-    let c = eqb s.stage inMasked in
-    let g = grown-names c b (drawing c (drawn f) s) (x ∷ []) (statementAt c s n f ∷ []) in (
+    let c = eqb s.stage in_masked in
+    let g = grown-names c b (drawing c (drawn f) s) (x ∷ []) (statement_at c s n f ∷ []) in (
       g.0,
       stage-names b k (added n (assign x f) s) ∙ ap (names_of b) (assign-adds c s n x f refl) ∙ g.1
           ∙ ap (λ (l : List Name). l ++ g.0) (drawing-names b c (drawn f) s),
     )
 
 -- what a `let` adds
-let-longer : (s : State) (n k : ℕ) (x : Name) (f : Formula) → Longer s (atStage k (added n (letting x f) s))
-let-longer s n k x f b =
-    let c = eqb s.stage inMasked in
-    let sts = statementsAt c s n f in
+let_longer : (s : State) (n k : ℕ) (x : Name) (f : Formula) → Longer s (at_stage k (added n (letting x f) s))
+let_longer s n k x f b =
+    let c = eqb s.stage in_masked in
+    let sts = statements_at c s n f in
     let g = grown-names c b s (replicate (length sts - 1) unnamed ++ x ∷ []) sts in
-    (g.0, stage-names b k (added n (letting x f) s) ∙ ap (names_of b) (let-adds c s n x f refl) ∙ g.1)
+    (g.0, stage-names b k (added n (letting x f) s) ∙ ap (names_of b) (let_adds c s n x f refl) ∙ g.1)
 
 -- what a record adds
-leads-longer : (s : State) (n : ℕ) {w : Word} {r : Record} {c : ℕ} → Made w r c → Longer s (leadsTo s n w r)
-unfolding atStage added withShares withMap withInput withResult withOutputs
+leads-longer : (s : State) (n : ℕ) {w : Word} {r : Record} {c : ℕ} → Made w r c → Longer s (leads_to s n w r)
+unfolding at_stage added with_shares with_map with_input with_result with_outputs
 leads-longer s n (made-shares h) = none-longer s _ refl refl
 leads-longer s n (made-map h) = none-longer s _ refl refl
-leads-longer s n (made-input {n = x} m h) = two-longer s _ (x ∷ []) (shareNames x 0 s.shares) refl refl
+leads-longer s n (made-input {n = x} m h) = two-longer s _ (x ∷ []) (share_names x 0 s.shares) refl refl
 leads-longer s n (made-origin h) = none-longer s _ refl refl
 leads-longer s n (made-assign {n = x} {f = f} m t h) = assign-longer s n _ x f
-leads-longer s n (made-let {n = x} {f = f} m t) = let-longer s n _ x f
+leads-longer s n (made_let {n = x} {f = f} m t) = let_longer s n _ x f
 leads-longer s n (made-result m h) = none-longer s _ refl refl
 leads-longer s n (made-masked h) = none-longer s _ refl refl
 leads-longer s n (made-output m h) = none-longer s _ refl refl
@@ -112,6 +112,6 @@ runs-below last [] s n e b = ([], append-nil (names_of b s) ∙ ap (names_of b) 
 runs-below last (l ∷ ls) s n e b =
     let a = runs-first s last n l ls e in
     let T = line_taken s (n + 1) l a.0 a.1 in
-    below-longer last s (leadsTo s (n + 1) (wordOn l) T.made)
+    below-longer last s (leads_to s (n + 1) (word_on l) T.made)
     (leads-longer s (n + 1) (line_made (pieces tab l) T.made T.makes))
     (subst (Below last) (sym T.leads) (runs-below last ls a.0 (n + 1) a.2)) b

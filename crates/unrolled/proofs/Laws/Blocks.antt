@@ -12,11 +12,11 @@ use Rattle.grammar.specs.Formula.{Formula}
 use Rattle.grammar.specs.Record.{Form, assign, letting}
 use Rattle.rules.specs.declared.types.Op.{Op}
 use Rattle.rules.specs.declared.types.Statement.{Statement}
-use Rattle.rules.specs.Order.{inMasked}
+use Rattle.rules.specs.Order.{in_masked}
 use Rattle.rules.specs.State.{State}
-use Rattle.rules.specs.Stated.{withOrigin, withMasked, withOriginAll, withMaskedAll, unnamed}
-use Rattle.rules.specs.Scope.{drawn, opIn, letOps}
-use Rattle.rules.specs.Faults.{block, statementCount}
+use Rattle.rules.specs.Stated.{with_origin, with_masked, with_origin_all, with_masked_all, unnamed}
+use Rattle.rules.specs.Scope.{drawn, op_in, let_ops}
+use Rattle.rules.specs.Faults.{block, statement_count}
 use Rattle.rules.specs.Added.{added}
 
 -- what is known, with other blocks
@@ -25,7 +25,7 @@ resting s on os mn ms =
     record {
       stage = s.stage;
       shares = s.shares;
-      mapNames = s.mapNames;
+      map_names = s.map_names;
       maps = s.maps;
       inputs = s.inputs;
       variables = s.variables;
@@ -56,7 +56,7 @@ ops_of ss = map_list (λ s. s.op) ss
 -- all but the blocks
 pub grown-same : (b : Bool) (s : State) (ns : List Name) (sts : List Statement)
     → ((grown b s ns sts).stage ≡ s.stage) × ((grown b s ns sts).variables ≡ s.variables)
-    × ((grown b s ns sts).mapNames ≡ s.mapNames)
+    × ((grown b s ns sts).map_names ≡ s.map_names)
 unfolding grown resting
 grown-same true s ns sts = (refl, refl, refl)
 grown-same false s ns sts = (refl, refl, refl)
@@ -79,8 +79,8 @@ grown-own false s ns sts = refl
 
 -- the statements of both blocks
 pub grown-count : (b : Bool) (s : State) (ns : List Name) (sts : List Statement)
-    → statementCount (grown b s ns sts) ≡ statementCount s + length sts
-unfolding grown resting statementCount
+    → statement_count (grown b s ns sts) ≡ statement_count s + length sts
+unfolding grown resting statement_count
 grown-count true s ns sts = omega (arith, length-append s.masked.statements sts)
 grown-count false s ns sts = omega (arith, length-append s.origin.statements sts)
 
@@ -108,10 +108,10 @@ grown-more false s ns ks sts ss =
 -- ---- the block that a statement stands in
 
 -- its names
-pub block-names : (b : Bool) (s : State) → eqb s.stage inMasked ≡ b → (block s).names ≡ names_of b s
+pub block_names_lem : (b : Bool) (s : State) → eqb s.stage in_masked ≡ b → (block s).names ≡ names_of b s
 unfolding block names_of
-block-names true s e = rw e
-block-names false s e = rw e
+block_names_lem true s e = rw e
+block_names_lem false s e = rw e
 
 -- what is known, with k more variables where the block is the masked one
 unfoldable pub drawing : Bool → ℕ → State → State
@@ -119,7 +119,7 @@ drawing true k s =
     record {
       stage = s.stage;
       shares = s.shares;
-      mapNames = s.mapNames;
+      map_names = s.map_names;
       maps = s.maps;
       inputs = s.inputs;
       variables = s.variables + k;
@@ -138,7 +138,7 @@ drawing-none true k s e =
     λ i. record {
       stage = s.stage;
       shares = s.shares;
-      mapNames = s.mapNames;
+      map_names = s.map_names;
       maps = s.maps;
       inputs = s.inputs;
       variables = same i;
@@ -150,25 +150,25 @@ drawing-none true k s e =
 drawing-none false k s e = refl
 
 -- the statement that line n adds to a block
-abbrev pub statementAt : Bool → State → ℕ → Form → Statement
-statementAt b s n f = record { op = opIn (names_of b s) s.mapNames s.variables f; line = n }
+abbrev pub statement_at : Bool → State → ℕ → Form → Statement
+statement_at b s n f = record { op = op_in (names_of b s) s.map_names s.variables f; line = n }
 
 -- THEOREM: a statement adds its name and itself to its block
-pub assign-adds : (b : Bool) (s : State) (n : ℕ) (x : Name) (f : Form) → eqb s.stage inMasked ≡ b
-    → added n (assign x f) s ≡ grown b (drawing b (drawn f) s) (x ∷ []) (statementAt b s n f ∷ [])
-unfolding added block names_of grown resting drawing withMasked withOrigin
+pub assign-adds : (b : Bool) (s : State) (n : ℕ) (x : Name) (f : Form) → eqb s.stage in_masked ≡ b
+    → added n (assign x f) s ≡ grown b (drawing b (drawn f) s) (x ∷ []) (statement_at b s n f ∷ [])
+unfolding added block names_of grown resting drawing with_masked with_origin
 assign-adds true s n x f e = rw e
 assign-adds false s n x f e = rw e
 
 -- the statements that a `let` on line n adds to a block
-abbrev pub statementsAt : Bool → State → ℕ → Formula → List Statement
-statementsAt b s n f =
-    map_list (λ op. record { op = op; line = n }) (letOps (names_of b s) s.mapNames (length (names_of b s)) f)
+abbrev pub statements_at : Bool → State → ℕ → Formula → List Statement
+statements_at b s n f =
+    map_list (λ op. record { op = op; line = n }) (let_ops (names_of b s) s.map_names (length (names_of b s)) f)
 
 -- THEOREM: a `let` adds its statements to its block, and its name for the last
-pub let-adds : (b : Bool) (s : State) (n : ℕ) (x : Name) (f : Formula) → eqb s.stage inMasked ≡ b
-    → (let sts = statementsAt b s n f in
+pub let_adds : (b : Bool) (s : State) (n : ℕ) (x : Name) (f : Formula) → eqb s.stage in_masked ≡ b
+    → (let sts = statements_at b s n f in
     added n (letting x f) s ≡ grown b s (replicate (length sts - 1) unnamed ++ x ∷ []) sts)
-unfolding added block names_of grown resting withMaskedAll withOriginAll
-let-adds true s n x f e = rw e
-let-adds false s n x f e = rw e
+unfolding added block names_of grown resting with_masked_all with_origin_all
+let_adds true s n x f e = rw e
+let_adds false s n x f e = rw e

@@ -24,29 +24,29 @@ use Rattle.rules.specs.declared.types.Operand.{Operand}
 use Rattle.rules.specs.declared.types.Operand.TheVariants.{Place}
 use Rattle.rules.specs.declared.types.Op.{Op}
 use Rattle.rules.specs.declared.types.Op.TheVariants as Op
-use Rattle.rules.specs.Limits.{mostVariables, mostStatements}
-use Rattle.rules.specs.Order.{inMasked, mayStand}
+use Rattle.rules.specs.Limits.{most_variables, most_statements}
+use Rattle.rules.specs.Order.{in_masked, may_stand}
 use Rattle.rules.specs.State.{State}
 use Rattle.rules.specs.Stated.{unnamed}
-use Rattle.rules.specs.Scope.{place_of, missing, unknownTerm, unknownForm, unknownFormula, drawn}
-use Rattle.rules.specs.Faults.{statementCount}
-use Rattle.rules.specs.Scope.{operandIn, opIn, value_of}
-use Rattle.unrolled.specs.Unrolled.{termFor}
-use Rattle.unrolled.proofs.Laws.Set.{In, in_left, in_right, missing-in, place-left, place-next}
+use Rattle.rules.specs.Scope.{place_of, missing, unknown_term, unknown_form, unknown_formula, drawn}
+use Rattle.rules.specs.Faults.{statement_count}
+use Rattle.rules.specs.Scope.{operand_in, op_in, value_of}
+use Rattle.unrolled.specs.Unrolled.{term_for}
+use Rattle.unrolled.proofs.Laws.Set.{In, in_left, in_right, missing_in, place-left, place-next}
 use Rattle.unrolled.proofs.Laws.Blocks.{names_of}
 
 -- What a `let` needs of the names ns that its statements give, in a block that holds ms: each is a name that a field
 -- spells, and is new behind those before it; names that are given keep their places.
 pub record Ready (b : Bool) (q : State) (ms ns : List Name) : Type 0 where
-  pub block : eqb q.stage inMasked ≡ b
-  pub stands : mayStand Word.Let q.stage ≡ true
+  pub block : eqb q.stage in_masked ≡ b
+  pub stands : may_stand Word.Let q.stage ≡ true
   pub size : length (names_of b q) ≡ length ms
   pub holds : (n : Name) → Named n → missing ms n ≡ false → In n (names_of b q)
   pub place : (n : Name) → Named n → missing ms n ≡ false → place_of n (names_of b q) ≡ place_of n ms
   pub named : (i : ℕ) → i < length ns → Named (get_or ns i unnamed)
   pub fresh : (i : ℕ) → i < length ns → In (get_or ns i unnamed) (names_of b q ++ take i ns) → ⊥
-  pub room : statementCount q + length ns ≤ mostStatements
-  pub few : q.variables ≤ mostVariables
+  pub room : statement_count q + length ns ≤ most_statements
+  pub few : q.variables ≤ most_variables
 
 module _ (b : Bool) (q : State) (ms ns : List Name) (R : Ready b q ms ns) where
   -- the names before place i of a `let`, behind those of the block
@@ -75,31 +75,31 @@ module _ (b : Bool) (q : State) (ms ns : List Name) (R : Ready b q ms ns) where
 
   -- what is known of the operand that a part's value is
   pub record OperandIs (i at : ℕ) (g : Formula) : Type 0 where
-    pub termed : Termed (termFor ns at g)
-    pub known : unknownTerm (up_to i) (termFor ns at g) ≡ false
-    pub value : operandIn (up_to i) (termFor ns at g) ≡ value_of ms (length ms + at) g
+    pub termed : Termed (term_for ns at g)
+    pub known : unknown_term (up_to i) (term_for ns at g) ≡ false
+    pub value : operand_in (up_to i) (term_for ns at g) ≡ value_of ms (length ms + at) g
 
   -- the value of an operation
   inner-is : (i j p : ℕ) → j < i → i ≤ length ns → p ≡ length ms + j
-      → Termed (name (get_or ns j unnamed)) × (unknownTerm (up_to i) (name (get_or ns j unnamed)) ≡ false)
-      × (operandIn (up_to i) (name (get_or ns j unnamed)) ≡ Place p)
-  unfolding unknownTerm operandIn
+      → Termed (name (get_or ns j unnamed)) × (unknown_term (up_to i) (name (get_or ns j unnamed)) ≡ false)
+      × (operand_in (up_to i) (name (get_or ns j unnamed)) ≡ Place p)
+  unfolding unknown_term operand_in
   inner-is i j p h l e =
       let k = inner-place i j h l in (
         named-termed (get_or ns j unnamed) (R.named j (omega arith)),
-        missing-in (get_or ns j unnamed) (up_to i) k.0,
+        missing_in (get_or ns j unnamed) (up_to i) k.0,
         ap Place (k.1 ∙ sym e),
       )
 
   -- THEOREM: an operand of a line stands for the value that it stands for in the formula
   pub term_is : (g : Formula) (at i : ℕ) → at + operations g ≤ i → i ≤ length ns → Spelt g
-      → (maps : List Name) → unknownFormula ms maps g ≡ false → OperandIs i at g
-  unfolding termFor value_of operations unknownFormula unknownTerm operandIn
+      → (maps : List Name) → unknown_formula ms maps g ≡ false → OperandIs i at g
+  unfolding term_for value_of operations unknown_formula unknown_term operand_in
   term_is (operand (name n)) at i h l S maps e =
       let k = R.holds n S.named e in
       record {
         termed = S;
-        known = missing-in n (up_to i) (in_left n (names_of b q) (take i ns) k);
+        known = missing_in n (up_to i) (in_left n (names_of b q) (take i ns) k);
         value = ap Place (place-left n (names_of b q) (take i ns) k ∙ R.place n S.named e);
       }
   term_is (operand (byte c)) at i h l S maps e = record { termed = S; known = refl; value = refl }
@@ -118,43 +118,43 @@ module _ (b : Bool) (q : State) (ms ns : List Name) (R : Ready b q ms ns) where
 -- ---- operations on two values
 
 -- the statement that is an operation on two operands
-abbrev pub twoForm : Binary → Term → Term → Form
-twoForm Binary.Xor = xor
-twoForm Binary.Mul = mul
+abbrev pub two_form : Binary → Term → Term → Form
+two_form Binary.Xor = xor
+two_form Binary.Mul = mul
 
 -- what it computes
-abbrev pub twoOp : Binary → Operand → Operand → Op
-twoOp Binary.Xor = Op.Xor
-twoOp Binary.Mul = Op.Mul
+abbrev pub two_op : Binary → Operand → Operand → Op
+two_op Binary.Xor = Op.Xor
+two_op Binary.Mul = Op.Mul
 
 module _ (x y : Term) where
   -- its operands are spelt
-  pub two-spelt : (g : Binary) → Termed x → Termed y → SpeltForm (twoForm g x y)
+  pub two-spelt : (g : Binary) → Termed x → Termed y → SpeltForm (two_form g x y)
   two-spelt Binary.Xor h k = (h, k)
   two-spelt Binary.Mul h k = (h, k)
 
   -- it draws no variable
-  pub two-draws : (g : Binary) → drawn (twoForm g x y) ≡ 0
+  pub two-draws : (g : Binary) → drawn (two_form g x y) ≡ 0
   unfolding drawn
   two-draws Binary.Xor = refl
   two-draws Binary.Mul = refl
 
   -- it stands where a `let` does
-  pub two-stands : (g : Binary) (stage : ℕ) → mayStand Word.Let stage ≡ true
-      → mayStand (word_for (twoForm g x y)) stage ≡ true
+  pub two-stands : (g : Binary) (stage : ℕ) → may_stand Word.Let stage ≡ true
+      → may_stand (word_for (two_form g x y)) stage ≡ true
   two-stands Binary.Xor stage h = h
   two-stands Binary.Mul stage h = h
 
   -- it reads what is given where its operands are
-  pub two-known : (g : Binary) (l maps : List Name) → unknownTerm l x ≡ false → unknownTerm l y ≡ false
-      → unknownForm l maps (twoForm g x y) ≡ false
-  unfolding unknownForm
+  pub two-known : (g : Binary) (l maps : List Name) → unknown_term l x ≡ false → unknown_term l y ≡ false
+      → unknown_form l maps (two_form g x y) ≡ false
+  unfolding unknown_form
   two-known Binary.Xor l maps h k = rw (h, k)
   two-known Binary.Mul l maps h k = rw (h, k)
 
   -- its operation is that on the operands by their places
-  pub two-computes : (g : Binary) (l maps : List Name) (v : ℕ)
-      → opIn l maps v (twoForm g x y) ≡ twoOp g (operandIn l x) (operandIn l y)
-  unfolding opIn
-  two-computes Binary.Xor l maps v = refl
-  two-computes Binary.Mul l maps v = refl
+  pub two_computes : (g : Binary) (l maps : List Name) (v : ℕ)
+      → op_in l maps v (two_form g x y) ≡ two_op g (operand_in l x) (operand_in l y)
+  unfolding op_in
+  two_computes Binary.Xor l maps v = refl
+  two_computes Binary.Mul l maps v = refl

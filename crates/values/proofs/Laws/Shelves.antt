@@ -14,7 +14,7 @@ use Rattle.poly.specs.Poly.{Poly}
 use Rattle.poly.specs.First.{sum}
 use Rattle.buffer.proofs.Lent.Reads.{read_same}
 use Rattle.values.specs.declared.shelf.Shelf.{Shelf}
-use Rattle.values.specs.Shelf.{termsAt, value_of, stored, bare, shelved, Sound, Laid}
+use Rattle.values.specs.Shelf.{terms_at, value_of, stored, bare, shelved, Sound, Laid}
 use Rattle.verdict.proofs.Laws.Begins.{tabulate-same}
 use Rattle.values.proofs.Laws.Tables.{tabulate-more}
 
@@ -31,9 +31,9 @@ bare-sound = record {
   topped = refl;
 }
 
-sum-snoc : (xs : List ℕ) (k : ℕ) → sum (xs ++ k ∷ []) ≡ sum xs + k
-sum-snoc [] k = omega arith
-sum-snoc (x ∷ xs) k = omega (arith, sum-snoc xs k)
+sum_snoc : (xs : List ℕ) (k : ℕ) → sum (xs ++ k ∷ []) ≡ sum xs + k
+sum_snoc [] k = omega arith
+sum_snoc (x ∷ xs) k = omega (arith, sum_snoc xs k)
 
 module _ (d : Shelf) (k : ℕ) (o : Sound d) (h : d.count < 256) where
   start-new : get_or (shelved d k).starts d.count 0 ≡ d.top
@@ -69,7 +69,7 @@ module _ (d : Shelf) (k : ℕ) (o : Sound d) (h : d.count < 256) where
         let l : d.count < length d.sizes = omega (arith, o.sizes) in
         sym (ap sum (ap (λ (j : ℕ). take j (set d.sizes d.count k)) (add-one d.count)
         ∙ take-suc-set d.sizes d.count k l)
-        ∙ sum-snoc (take d.count d.sizes) k ∙ ap (λ (t : ℕ). t + k) (sym o.topped));
+        ∙ sum_snoc (take d.count d.sizes) k ∙ ap (λ (t : ℕ). t + k) (sym o.topped));
   }
 
   -- ---- the values
@@ -84,12 +84,12 @@ module _ (d : Shelf) (k : ℕ) (o : Sound d) (h : d.count < 256) where
         let e : suc (w - 1) ≡ w = omega arith in
         let u : s * w + z * w ≤ d.top * w = subst (λ (x : ℕ). x ≤ d.top * w) (add-mul s z w)
         (mul-le-mul_right w (o.below i l)) in
-        ap₂ (termsAt w b') (start-old i n) (size-old i n)
+        ap₂ (terms_at w b') (start-old i n) (size-old i n)
         ∙ read_same (w - 1) b' b (s * w) z f.size (λ j g q. f.low j (omega (arith, rw e at q)))
 
     new : value_of w b' (shelved d k) d.count ≡ p
     unfolding value_of
-    new = ap₂ (termsAt w b') start-new size-new ∙ f.terms
+    new = ap₂ (terms_at w b') start-new size-new ∙ f.terms
 
     -- the buffer holds one value more
     pub stored_more : stored w b' (shelved d k) ≡ stored w b d ++ p ∷ []

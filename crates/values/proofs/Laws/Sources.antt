@@ -17,7 +17,7 @@ use Rattle.values.specs.declared.source.Source.{Source}
 use Rattle.values.specs.declared.source.Source.TheVariants.{Constant, Variables, Stored}
 use Rattle.values.specs.declared.source.Scope.{Scope}
 use Rattle.values.specs.Shelf.{stored, value_of, Sound}
-use Rattle.values.specs.Source.{source_of, sourceSize, beginning, variablesOf, visible, Located}
+use Rattle.values.specs.Source.{source_of, source_size, beginning, variables_of, visible, Located}
 use Rattle.verdict.proofs.Count.{constant-size, units-size}
 use Rattle.verdict.proofs.Laws.Lists.{length-tabulate}
 use Rattle.values.proofs.Laws.Tables.{tabulate-at, tabulate-past}
@@ -25,17 +25,17 @@ use Rattle.values.proofs.Laws.Tables.{tabulate-at, tabulate-past}
 -- ---- how many terms
 
 -- a source has as many terms as its size says
-pub source-length : (w : ℕ) (b : List ℕ) (s : Source) → length (source_of w b s) ≡ sourceSize s
-unfolding source_of sourceSize
+pub source-length : (w : ℕ) (b : List ℕ) (s : Source) → length (source_of w b s) ≡ source_size s
+unfolding source_of source_size
 source-length w b (Constant c) = constant-size (w - 1) c
 source-length w b (Variables i k) = units-size (w - 1) i k
 source-length w b (Stored at k) = read_length (w - 1) b (at * w) k
 
 -- a constant that is not zero has one
-pub one-term : (s : Source) (c : ℕ) → s ≡ Constant c → (c ≡ 0 → ⊥) → 1 ≡ sourceSize s
-unfolding sourceSize
+pub one-term : (s : Source) (c : ℕ) → s ≡ Constant c → (c ≡ 0 → ⊥) → 1 ≡ source_size s
+unfolding source_size
 one-term s zero e h = absurd (h refl)
-one-term s (suc c) e h = sym (ap sourceSize e)
+one-term s (suc c) e h = sym (ap source_size e)
 
 -- ---- the values that a statement may read
 
@@ -65,38 +65,38 @@ module _ (n : ℕ) (s : Scope) (vs : List Poly) (d : Poly) where
 
 module _ (s : Scope) (d : Shelf) (i : ℕ) where
   -- a value that the block begins with
-  pub located-variables : i < s.begins → Located s d (Place i) (Variables (i * s.width) s.width)
+  pub located_variables : i < s.begins → Located s d (Place i) (Variables (i * s.width) s.width)
   unfolding source_of operand value_at
-  located-variables h = record {
+  located_variables h = record {
     means = λ m w b. sym (visible-first (w - 1) s (stored w b d) _ i h);
     fits = λ w l. omega (arith, suc-mul i s.width, mul-le-mul_right s.width h);
   }
 
   -- a place past the last is 0
-  pub located-nothing : s.begins ≤ i → s.base ≤ d.count → d.count - s.base ≤ i - s.begins
+  pub located_nothing : s.begins ≤ i → s.base ≤ d.count → d.count - s.base ≤ i - s.begins
       → Located s d (Place i) (Constant 0)
   unfolding source_of operand value_at polynomials stored
-  located-nothing h k g = record {
+  located_nothing h k g = record {
     means = λ m w b. sym (visible-later (w - 1) s (stored w b d) _ i h
         ∙ tabulate-past d.count (value_of w b d) (s.base + (i - s.begins)) _ (omega arith));
     fits = λ w l. tt;
   }
 
   -- the value of a statement
-  pub located-stored : Sound d → s.begins ≤ i → s.base ≤ d.count → i - s.begins < d.count - s.base
+  pub located_stored : Sound d → s.begins ≤ i → s.base ≤ d.count → i - s.begins < d.count - s.base
       → Located s d (Place i) (Stored (get_or d.starts (s.base + (i - s.begins)) 0)
       (get_or d.sizes (s.base + (i - s.begins)) 0))
   unfolding source_of operand value_at stored value_of
-  located-stored o h k g = record {
+  located_stored o h k g = record {
     means = λ m w b. sym (visible-later (w - 1) s (stored w b d) _ i h
         ∙ tabulate-at d.count (value_of w b d) (s.base + (i - s.begins)) _ (omega arith));
     fits = λ w l. o.below (s.base + (i - s.begins)) (omega arith);
   }
 
 -- a constant operand
-pub located-byte : (s : Scope) (d : Shelf) (c : ℕ) → Located s d (Byte c) (Constant c)
+pub located_byte : (s : Scope) (d : Shelf) (c : ℕ) → Located s d (Byte c) (Constant c)
 unfolding source_of operand polynomials
-located-byte s d c = record { means = λ m w b. refl; fits = λ w l. tt }
+located_byte s d c = record { means = λ m w b. refl; fits = λ w l. tt }
 
 -- the place of a variable is small
 pub variable-fits : (s : Scope) (i : ℕ) → i < s.begins → i * s.width ≤ s.begins * s.width
@@ -106,6 +106,6 @@ variable-fits s i h = mul-le-mul_right s.width (omega arith)
 
 -- it is found among the variables
 pub drawn-variable : (s : Scope) (v : ℕ) → v < s.drawn → (m w : ℕ) (b : List ℕ)
-    → source_of w b (Variables v 1) ≡ value_at (polynomials m (w - 1)) (variablesOf (w - 1) s) v
-unfolding source_of value_at variablesOf
+    → source_of w b (Variables v 1) ≡ value_at (polynomials m (w - 1)) (variables_of (w - 1) s) v
+unfolding source_of value_at variables_of
 drawn-variable s v h m w b = sym (tabulate-at s.drawn (variable (w - 1)) v _ h)

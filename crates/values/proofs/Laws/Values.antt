@@ -8,16 +8,16 @@ use mathlib.Core.List.{List, []}
 use mathlib.Core.Logic.{◌⊎◌, inl, inr, ⊎_elim}
 use lib.ListN.{length, get_or}
 use Rattle.field.specs.Field.{Modulus}
-use Rattle.poly.specs.Size.{oneIf, nonzeros}
+use Rattle.poly.specs.Size.{one_if, nonzeros}
 use Rattle.values.specs.declared.source.Source.{Source}
 use Rattle.values.specs.declared.source.Source.TheVariants.{Constant, Variables, Stored}
 use Rattle.values.specs.declared.found.Found.{Found}
 use Rattle.values.specs.declared.found.Found.TheVariants.{Copy, Sum, Product, Image}
 use Rattle.values.specs.Shelf.{Laid}
-use Rattle.values.specs.Source.{sourceSize, Fits}
-use Rattle.values.specs.Load.{mostTermBytes, LayAsked, LoadAsked}
+use Rattle.values.specs.Source.{source_size, Fits}
+use Rattle.values.specs.Load.{most_term_bytes, LayAsked, LoadAsked}
 use Rattle.values.specs.Form.{PairAsked}
-use Rattle.values.specs.Found.{foundValue, foundSize}
+use Rattle.values.specs.Found.{found_value, found_size}
 use Rattle.values.specs.Value.{FormAsked}
 use Rattle.values.proofs.Laws.Sizes.{one-most}
 
@@ -25,11 +25,11 @@ use Rattle.values.proofs.Laws.Sizes.{one-most}
 
 -- an operand is small, or it stands among the values
 data Held (top k : ℕ) : Type 0 where
-  small : k ≤ mostTermBytes → Held top k
+  small : k ≤ most_term_bytes → Held top k
   stands : k ≤ top → Held top k
 
-held : (w top : ℕ) (r : Source) → w ≤ mostTermBytes → Fits w top r → Held top (sourceSize r)
-unfolding sourceSize
+held : (w top : ℕ) (r : Source) → w ≤ most_term_bytes → Fits w top r → Held top (source_size r)
+unfolding source_size
 held w top (Constant c) h f = small (omega (arith, one-most c))
 held w top (Variables i k) h f = small (omega arith)
 held w top (Stored at k) h f = stands (omega arith)
@@ -44,7 +44,7 @@ left-stands top zero q h (stands g) = inr (omega (arith, zero-mul q))
 left-stands top (suc p) q h (small g) = inr (omega (arith, suc-mul p q))
 left-stands top (suc p) q h (stands g) = inr (omega (arith, suc-mul p q))
 
-right-stands : (top p q : ℕ) → p ≤ mostTermBytes → q ≤ top → Few top p q
+right-stands : (top p q : ℕ) → p ≤ most_term_bytes → q ≤ top → Few top p q
 right-stands top p zero h g = inl (omega arith)
 right-stands top p (suc q) h g = inr (omega (arith, mul-suc p q))
 
@@ -58,7 +58,7 @@ module _ {m : ℕ} {lists : List (List ℕ)} {constants : List ℕ} {left : List
   where
     module _ {o : Found} (Q : FormAsked m lists constants o left top right w) where
       abbrev raw : ℕ
-      raw = foundSize lists constants o
+      raw = found_size lists constants o
 
       -- what is no more than what stands and the raw size has room
       room-right : (k : ℕ) → k ≤ top + raw → k * w ≤ length right
@@ -76,7 +76,7 @@ module _ {m : ℕ} {lists : List (List ℕ)} {constants : List ℕ} {left : List
           let e : top + k ≤ top + raw = omega arith in
           record { some = Q.work.some; most = Q.work.most; room = omega (arith, mul-le-mul_right w e, Q.room) }
 
-      loading : (r : Source) (at : ℕ) → Fits w top r → (at + sourceSize r) * w ≤ length right
+      loading : (r : Source) (at : ℕ) → Fits w top r → (at + source_size r) * w ≤ length right
           → LoadAsked left r right at w
       loading r at f h =
           let e : top ≤ top + raw = omega arith in
@@ -89,13 +89,13 @@ module _ {m : ℕ} {lists : List (List ℕ)} {constants : List ℕ} {left : List
 
       alone : (r : Source) → Fits w top r → LoadAsked left r right 0 w
       alone r f =
-          let e : 0 + sourceSize r ≡ sourceSize r = omega arith in
+          let e : 0 + source_size r ≡ source_size r = omega arith in
           loading r 0 f (subst (λ (x : ℕ). x * w ≤ length right) (sym e)
-          (room-held (sourceSize r) (held w top r Q.work.most f)))
+          (room-held (source_size r) (held w top r Q.work.most f)))
 
-      pair : (r t : Source) → Fits w top r → Fits w top t → (sourceSize r + sourceSize t) * w ≤ length right
+      pair : (r t : Source) → Fits w top r → Fits w top t → (source_size r + source_size t) * w ≤ length right
           → PairAsked left r t right w
-      pair r t f g h = record { first = alone r f; second = loading t (sourceSize r) g h }
+      pair r t f g h = record { first = alone r f; second = loading t (source_size r) g h }
 
     -- ---- what each arm asks and leaves; x is what the code has found
 
@@ -105,48 +105,48 @@ module _ {m : ℕ} {lists : List (List ℕ)} {constants : List ℕ} {left : List
 
       -- room for a copy
       pub copy-asked : {r : Source} → x ≡ Copy r
-          → LoadAsked left r right 0 w × LayAsked left top (sourceSize r) w
-      unfolding foundSize
-      copy-asked {r} e = (alone (at e) r (at e).fits, laying (at e) (sourceSize r) (omega arith))
+          → LoadAsked left r right 0 w × LayAsked left top (source_size r) w
+      unfolding found_size
+      copy-asked {r} e = (alone (at e) r (at e).fits, laying (at e) (source_size r) (omega arith))
 
       -- room for both operands and their sum
       pub sum-asked : {r t : Source} → x ≡ Sum r t
-          → PairAsked left r t right w × LayAsked left top (sourceSize r + sourceSize t) w
-      unfolding foundSize
+          → PairAsked left r t right w × LayAsked left top (source_size r + source_size t) w
+      unfolding found_size
       sum-asked {r} {t} e =
           let Q = at e in
-          let k = sourceSize r + sourceSize t in
+          let k = source_size r + source_size t in
           (pair Q r t Q.fits.0 Q.fits.1 (room-right Q k (omega arith)), laying Q k (omega arith))
 
       -- room for both operands and their product
-      pub product-asked : {r t : Source} → x ≡ Product r t
-          → PairAsked left r t right w × LayAsked left top (sourceSize r * sourceSize t) w
-      unfolding foundSize
-      product-asked {r} {t} e =
+      pub product_asked : {r t : Source} → x ≡ Product r t
+          → PairAsked left r t right w × LayAsked left top (source_size r * source_size t) w
+      unfolding found_size
+      product_asked {r} {t} e =
           let Q = at e in
-          let k = sourceSize r + sourceSize t in
-          let n = few top (sourceSize r) (sourceSize t) (held w top r Q.work.most Q.fits.0)
+          let k = source_size r + source_size t in
+          let n = few top (source_size r) (source_size t) (held w top r Q.work.most Q.fits.0)
           (held w top t Q.work.most Q.fits.1) in (
             pair Q r t Q.fits.0 Q.fits.1 (⊎_elim (λ h. room-spare Q k h) (λ h. room-right Q k h) n),
-            laying Q (sourceSize r * sourceSize t) (omega arith),
+            laying Q (source_size r * source_size t) (omega arith),
           )
 
       -- room for the operand and its image
       pub image-asked : {f : ℕ} {r : Source} → x ≡ Image f r
           → Modulus m × (f < 8) × LoadAsked left r right 0 w
-          × LayAsked left top (oneIf (get_or constants f 0) + nonzeros (get_or lists f []) * sourceSize r) w
-      unfolding foundSize
+          × LayAsked left top (one_if (get_or constants f 0) + nonzeros (get_or lists f []) * source_size r) w
+      unfolding found_size
       image-asked {f} {r} e =
           let Q = at e in (
             Q.work.modulus,
             Q.fits.0,
             alone Q r Q.fits.1,
-            laying Q (oneIf (get_or constants f 0) + nonzeros (get_or lists f []) * sourceSize r) (omega arith),
+            laying Q (one_if (get_or constants f 0) + nonzeros (get_or lists f []) * source_size r) (omega arith),
           )
 
       -- the arm that is taken leaves the value of what was found
       pub formed-at : {o : Found} {left' : List ℕ} {k : ℕ} → x ≡ o
-          → Laid w left left' top k (foundValue m w lists constants left o)
-          → Laid w left left' top k (foundValue m w lists constants left x)
+          → Laid w left left' top k (found_value m w lists constants left o)
+          → Laid w left left' top k (found_value m w lists constants left x)
       formed-at {left' = left'} {k} e h =
-          subst (λ (y : Found). Laid w left left' top k (foundValue m w lists constants left y)) (sym e) h
+          subst (λ (y : Found). Laid w left left' top k (found_value m w lists constants left y)) (sym e) h

@@ -4,8 +4,8 @@
 use Rattle.std.proofs.Common.{◌≡◌, ℕ, zero, suc, ◌+◌, ◌-◌, ◌*◌, ◌<◌, ◌≤◌, List, ◌∷◌, map, take, drop, replicate, sym, refl, ap, ◌∙◌, ap₂, le_of_suc-le-suc, add-zero, suc-mul, suc-add, zero-add, zero-mul, arith, drop-drop}
 use Prim.Native.Nat.{compare, Ordering}
 use Rattle.field.specs.Laws.{Ops, gf}
-use Rattle.poly.specs.Poly.{term, Poly, unit, units, variable, order, or_else, place, insert, normal, addPoly}
-use Rattle.poly.proofs.Laws.Order.{order-self}
+use Rattle.poly.specs.Poly.{term, Poly, unit, units, variable, order, or_else, place, insert, normal, add_poly}
+use Rattle.poly.proofs.Laws.Order.{order_self}
 use Rattle.verdict.specs.Lists.{tabulate, lots}
 use Rattle.verdict.specs.Meaning.{joined}
 use Rattle.verdict.specs.Instances.{polynomials}
@@ -42,7 +42,7 @@ module _ {X : Type 0} where
 -- ---- the variables in order
 
 zeros-first : (n : ℕ) → order (replicate (suc n) 0) (unit (suc n) 0) ≡ Ordering.lt
-zeros-first n = ap (λ (o : Ordering). or_else o Ordering.lt) (order-self (replicate n 0))
+zeros-first n = ap (λ (o : Ordering). or_else o Ordering.lt) (order_self (replicate n 0))
 
 -- each variable comes before the next
 unit-order : (n j : ℕ) → suc j < n → order (unit n j) (unit n (suc j)) ≡ Ordering.lt
@@ -78,7 +78,7 @@ joined-units m n j (suc k) h =
     ap (joined (polynomials m n)) (tabulate-same k (λ i. variable n (j + suc i)) (λ i. variable n (suc j + i))
     (λ i l. ap (variable n) (let z : j + suc i ≡ suc j + i = omega arith in z)))
     ∙ joined-units m n (suc j) k (omega arith) in
-    ap₂ (λ (x : ℕ) (p : Poly). addPoly (gf m) (variable n x) p) (add-zero j) e
+    ap₂ (λ (x : ℕ) (p : Poly). add_poly (gf m) (variable n x) p) (add-zero j) e
     ∙ ap (insert (gf m) 1 (unit n j)) (normal-units (gf m) n (suc j) k (omega arith))
     ∙ insert-unit (gf m) n j k (omega arith)
 

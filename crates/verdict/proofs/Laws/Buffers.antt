@@ -3,7 +3,7 @@
 -- Assumes nothing.
 use Rattle.std.proofs.Common.{◌≡◌, ℕ, zero, suc, ◌<◌, ◌≤◌, List, [], ◌∷◌, ◌++◌, length, get_or, drop, replicate, refl, arith, length-append, length-drop}
 use lib.ListN.{length-replicate}
-use Rattle.verdict.specs.Judge.{workBytes, zeroed, fronted}
+use Rattle.verdict.specs.Judge.{work_bytes, zeroed, fronted}
 use Rattle.verdict.specs.Verdict.{Cleared, KeptBehind}
 
 -- a buffer with zeros in front keeps its length
@@ -48,11 +48,11 @@ fronted-behind (b ∷ bs) (x ∷ l) zero k h = absurd (omega arith)
 fronted-behind (b ∷ bs) (x ∷ l) (suc i) k h = fronted-behind bs l i (omega arith) (omega arith)
 
 -- THEOREM: a work buffer that is long enough is cleared
-pub cleared : (w : List ℕ) → workBytes ≤ length w → Cleared w (zeroed workBytes w)
+pub cleared : (w : List ℕ) → work_bytes ≤ length w → Cleared w (zeroed work_bytes w)
 cleared w h = record {
-  size = zeroed-length workBytes w h;
-  front = zeroed-front workBytes w;
-  behind = λ i l. zeroed-behind workBytes w i h l;
+  size = zeroed-length work_bytes w h;
+  front = zeroed-front work_bytes w;
+  behind = λ i l. zeroed-behind work_bytes w i h l;
 }
 
 -- THEOREM: a byte list keeps what is behind the listed bytes

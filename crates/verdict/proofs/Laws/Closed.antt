@@ -9,12 +9,12 @@ use Rattle.rules.specs.declared.types.Statement.{Statement}
 use Rattle.rules.specs.declared.types.AffineMap.{AffineMap}
 use Rattle.rules.specs.Read.{Routine}
 use Rattle.verdict.specs.Lists.{lots, behind, poured}
-use Rattle.verdict.specs.Meaning.{Algebra, mapAt, value_at, operand, given, values, joined, originValues}
-use Rattle.verdict.specs.Meaning.{maskedValues, resultIn, outputsIn, trace, joinedIn, differenceIn}
+use Rattle.verdict.specs.Meaning.{Algebra, map_at, value_at, operand, given, values, joined, origin_values}
+use Rattle.verdict.specs.Meaning.{masked_values, result_in, outputs_in, trace, joined_in, difference_in}
 use Rattle.rules.specs.Formed.{Each, FormedOperand, FormedOp, FormedStatement, FormedMap, Formed}
 use Rattle.verdict.proofs.Laws.Lists.{each_at, each-lots, each-behind, each-poured, each_map}
 use Rattle.rules.proofs.Laws.Letting.{each_append}
-use Rattle.verdict.proofs.Laws.Meaning.{formed-mapAt}
+use Rattle.verdict.proofs.Laws.Meaning.{formed-map_at}
 
 -- what the operations keep, at bytes and maps that are well formed
 pub record Closed {X : Type 0} (A : Algebra X) (P : X → Type 0) : Type 0 where
@@ -25,14 +25,14 @@ pub record Closed {X : Type 0} (A : Algebra X) (P : X → Type 0) : Type 0 where
 
 module _ {X : Type 0} {A : Algebra X} {P : X → Type 0} (C : Closed A P) where
   -- the value at a place
-  pub valueAt-closed : (vs : List X) → Each P vs → (i : ℕ) → P (value_at A vs i)
+  pub value_at-closed : (vs : List X) → Each P vs → (i : ℕ) → P (value_at A vs i)
   unfolding value_at
-  valueAt-closed vs h i = each_at P vs (A.byte 0) h (C.byte 0 (omega arith)) i
+  value_at-closed vs h i = each_at P vs (A.byte 0) h (C.byte 0 (omega arith)) i
 
   -- an operand
   pub operand-closed : (vs : List X) → Each P vs → (a : Operand) → FormedOperand a → P (operand A vs a)
   unfolding operand
-  operand-closed vs h (Place i) f = valueAt-closed vs h i
+  operand-closed vs h (Place i) f = value_at-closed vs h i
   operand-closed vs h (Byte b) f = C.byte b f
 
   given-closed : (maps : List AffineMap) → Each FormedMap maps → (xs vs : List X) → Each P xs → Each P vs → (o : Op)
@@ -45,8 +45,8 @@ module _ {X : Type 0} {A : Algebra X} {P : X → Type 0} (C : Closed A P) where
   given-closed maps m xs vs g h (Mul a b) f =
       C.mul (operand A vs a) (operand A vs b) (operand-closed vs h a f.0) (operand-closed vs h b f.1)
   given-closed maps m xs vs g h (App k a) f =
-      C.apply (mapAt maps k) (formed-mapAt maps m k) (operand A vs a) (operand-closed vs h a f)
-  given-closed maps m xs vs g h (Rand v) f = valueAt-closed xs g v
+      C.apply (map_at maps k) (formed-map_at maps m k) (operand A vs a) (operand-closed vs h a f)
+  given-closed maps m xs vs g h (Rand v) f = value_at-closed xs g v
 
   -- the values of a block
   pub values-closed : (maps : List AffineMap) → Each FormedMap maps → (xs vs : List X) → Each P xs → Each P vs
@@ -66,7 +66,7 @@ module _ {X : Type 0} {A : Algebra X} {P : X → Type 0} (C : Closed A P) where
 
   each-place : (vs : List X) → Each P vs → (ps : List ℕ) → Each P (map (value_at A vs) ps)
   each-place vs h [] = tt
-  each-place vs h (p ∷ ps) = (valueAt-closed vs h p, each-place vs h ps)
+  each-place vs h (p ∷ ps) = (value_at-closed vs h p, each-place vs h ps)
 
   module _ (r : Routine) (F : Formed r) (xs : List X) (h : Each P xs) where
     shares-closed : Each (Each P) (lots r.shares r.inputs xs)
@@ -74,7 +74,7 @@ module _ {X : Type 0} {A : Algebra X} {P : X → Type 0} (C : Closed A P) where
 
     -- the values of the origin block
     pub origin-closed : Each P (trace A r xs).origin
-    unfolding trace originValues
+    unfolding trace origin_values
     origin-closed =
         values-closed r.maps F.maps [] (map (joined A) (lots r.shares r.inputs xs)) tt
         (each_map (Each P) P (joined A) joined-closed (lots r.shares r.inputs xs) shares-closed) r.origin
@@ -82,7 +82,7 @@ module _ {X : Type 0} {A : Algebra X} {P : X → Type 0} (C : Closed A P) where
 
     -- the values of the masked block
     pub masked-closed : Each P (trace A r xs).masked
-    unfolding trace maskedValues
+    unfolding trace masked_values
     masked-closed =
         let ss = lots r.shares r.inputs xs in
         let rs = behind r.shares r.inputs xs in
@@ -91,19 +91,19 @@ module _ {X : Type 0} {A : Algebra X} {P : X → Type 0} (C : Closed A P) where
         (each-poured P ss shares-closed) r.masked F.masked
 
     -- the original's result
-    pub result-closed : P (resultIn A r (trace A r xs).origin)
-    unfolding resultIn
-    result-closed = valueAt-closed (trace A r xs).origin origin-closed r.result
+    pub result-closed : P (result_in A r (trace A r xs).origin)
+    unfolding result_in
+    result-closed = value_at-closed (trace A r xs).origin origin-closed r.result
 
     -- the joined outputs
-    pub joinedIn-closed : P (joinedIn A r (trace A r xs))
-    unfolding joinedIn outputsIn
-    joinedIn-closed =
-        joined-closed (outputsIn A r (trace A r xs).masked)
+    pub joined_in-closed : P (joined_in A r (trace A r xs))
+    unfolding joined_in outputs_in
+    joined_in-closed =
+        joined-closed (outputs_in A r (trace A r xs).masked)
         (each-place (trace A r xs).masked masked-closed r.outputs)
 
     -- THEOREM: the difference
-    pub difference-closed : P (differenceIn A r (trace A r xs))
-    unfolding differenceIn
+    pub difference-closed : P (difference_in A r (trace A r xs))
+    unfolding difference_in
     difference-closed =
-        C.add (resultIn A r (trace A r xs).origin) (joinedIn A r (trace A r xs)) result-closed joinedIn-closed
+        C.add (result_in A r (trace A r xs).origin) (joined_in A r (trace A r xs)) result-closed joined_in-closed

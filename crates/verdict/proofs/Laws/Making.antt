@@ -3,38 +3,38 @@
 use Rattle.std.proofs.Common.{◌≡◌, ℕ, suc, ◌+◌, ◌-◌, ◌<◌, ◌≤◌, Bool, true, false, cond, List, ◌++◌, length, take, set, sym, ap, ◌∙◌, append_assoc, append-nil, arith, length-take-le}
 use Rattle.rules.specs.Read.{Routine}
 use Rattle.verdict.specs.declared.trials.Tried as code
-use Rattle.verdict.specs.Trials.{stepped, topByte, trialBytes, numberAfter, Found, nothing, bytes, agreesOn}
-use Rattle.verdict.specs.Trials.{tryFrom, foundOf}
-use Rattle.verdict.proofs.Laws.Parts.{take-store}
+use Rattle.verdict.specs.Trials.{stepped, top_byte, trial_bytes, number_after, Found, nothing, bytes, agrees_on}
+use Rattle.verdict.specs.Trials.{try_from, found_of}
+use Rattle.verdict.proofs.Laws.Parts.{take_store}
 
 -- ---- the bytes of one trial
 
 -- one more
-pub draw-more : (v i n x m : ℕ) (bs whole : List ℕ) → i < v → i < length bs → m ≡ stepped n → x ≡ topByte m
-    → whole ≡ take i bs ++ trialBytes (v - i) n
-    → whole ≡ take (i + 1) (set bs i x) ++ trialBytes (v - (i + 1)) m
-unfolding trialBytes
-draw-more v i n x m bs whole h l p q e =
+pub draw_more : (v i n x m : ℕ) (bs whole : List ℕ) → i < v → i < length bs → m ≡ stepped n → x ≡ top_byte m
+    → whole ≡ take i bs ++ trial_bytes (v - i) n
+    → whole ≡ take (i + 1) (set bs i x) ++ trial_bytes (v - (i + 1)) m
+unfolding trial_bytes
+draw_more v i n x m bs whole h l p q e =
     let k : v - i ≡ suc (v - (i + 1)) = omega arith in
-    e ∙ rw (k, take-store bs i x l, append_assoc, q, p)
+    e ∙ rw (k, take_store bs i x l, append_assoc, q, p)
 
-pub number_more : (v i n m whole : ℕ) → i < v → m ≡ stepped n → whole ≡ numberAfter (v - i) n
-    → whole ≡ numberAfter (v - (i + 1)) m
-unfolding numberAfter
+pub number_more : (v i n m whole : ℕ) → i < v → m ≡ stepped n → whole ≡ number_after (v - i) n
+    → whole ≡ number_after (v - (i + 1)) m
+unfolding number_after
 number_more v i n m whole h p e =
     let k : v - i ≡ suc (v - (i + 1)) = omega arith in
     e ∙ rw (k, p)
 
 -- all of them
-pub draw-all : (v i n : ℕ) (bs whole : List ℕ) → i ≡ v → whole ≡ take i bs ++ trialBytes (v - i) n → take v bs ≡ whole
-unfolding trialBytes
-draw-all v i n bs whole h e =
+pub draw_all : (v i n : ℕ) (bs whole : List ℕ) → i ≡ v → whole ≡ take i bs ++ trial_bytes (v - i) n → take v bs ≡ whole
+unfolding trial_bytes
+draw_all v i n bs whole h e =
     let k : v - i ≡ 0 = omega arith in
     sym (e ∙ rw (k, h, append-nil))
 
-pub number-all : (v i n whole : ℕ) → i ≡ v → whole ≡ numberAfter (v - i) n → n ≡ whole
-unfolding numberAfter
-number-all v i n whole h e = let k : v - i ≡ 0 = omega arith in sym (e ∙ rw k)
+pub number_all : (v i n whole : ℕ) → i ≡ v → whole ≡ number_after (v - i) n → n ≡ whole
+unfolding number_after
+number_all v i n whole h e = let k : v - i ≡ 0 = omega arith in sym (e ∙ rw k)
 
 -- the front part has its length
 pub front_length : (v : ℕ) (bs : List ℕ) → v ≤ length bs → v ≡ length (take (v - 0) bs)
@@ -44,49 +44,49 @@ front_length v bs h =
 
 -- what was told of the front part holds of the trial
 pub trial-told : (r : Routine) (n : ℕ) (bs : List ℕ) {b t : Bool}
-    → take r.variables bs ≡ trialBytes r.variables n
-    → b ≡ agreesOn r (take (r.variables - 0) bs) → b ≡ t → agreesOn r (trialBytes r.variables n) ≡ t
+    → take r.variables bs ≡ trial_bytes r.variables n
+    → b ≡ agrees_on r (take (r.variables - 0) bs) → b ≡ t → agrees_on r (trial_bytes r.variables n) ≡ t
 trial-told r n bs h p q =
     let e : r.variables - 0 ≡ r.variables = omega arith in
-    ap (agreesOn r) (sym h ∙ ap (λ (k : ℕ). take k bs) (sym e)) ∙ sym p ∙ q
+    ap (agrees_on r) (sym h ∙ ap (λ (k : ℕ). take k bs) (sym e)) ∙ sym p ∙ q
 
 -- ---- trials made one by one
 
 module _ (r : Routine) (whole : Found) (k made n : ℕ) where
   -- the next trial agrees
-  pub try-pass : (m : ℕ) → made < k → agreesOn r (trialBytes r.variables n) ≡ true
-      → m ≡ numberAfter r.variables n → whole ≡ tryFrom r (k - made) made n
-      → whole ≡ tryFrom r (k - (made + 1)) (made + 1) m
-  unfolding tryFrom
+  pub try-pass : (m : ℕ) → made < k → agrees_on r (trial_bytes r.variables n) ≡ true
+      → m ≡ number_after r.variables n → whole ≡ try_from r (k - made) made n
+      → whole ≡ try_from r (k - (made + 1)) (made + 1) m
+  unfolding try_from
   try-pass m h a p e =
       let l : k - made ≡ suc (k - (made + 1)) = omega arith in
       let s : suc made ≡ made + 1 = omega arith in
       e ∙ rw (l, a, s, p)
 
   -- it differs
-  pub try-stop : (bs : List ℕ) → made < k → agreesOn r (trialBytes r.variables n) ≡ false
-      → take r.variables bs ≡ trialBytes r.variables n → whole ≡ tryFrom r (k - made) made n
-      → foundOf r.variables (record { found = true; made = made + 1; bytes = bs }) ≡ whole
-  unfolding tryFrom foundOf
+  pub try-stop : (bs : List ℕ) → made < k → agrees_on r (trial_bytes r.variables n) ≡ false
+      → take r.variables bs ≡ trial_bytes r.variables n → whole ≡ try_from r (k - made) made n
+      → found_of r.variables (record { found = true; made = made + 1; bytes = bs }) ≡ whole
+  unfolding try_from found_of
   try-stop bs h a p e =
       let l : k - made ≡ suc (k - (made + 1)) = omega arith in
       let s : suc made ≡ made + 1 = omega arith in
       sym (e ∙ rw (l, a, s, p))
 
   -- none is left
-  pub try-done : (bs : List ℕ) → (made < k → ⊥) → whole ≡ tryFrom r (k - made) made n
-      → foundOf r.variables (record { found = false; made = made; bytes = bs }) ≡ whole
-  unfolding tryFrom foundOf
+  pub try-done : (bs : List ℕ) → (made < k → ⊥) → whole ≡ try_from r (k - made) made n
+      → found_of r.variables (record { found = false; made = made; bytes = bs }) ≡ whole
+  unfolding try_from found_of
   try-done bs h e = let l : k - made ≡ 0 = omega arith in sym (e ∙ rw l)
 
 -- ---- what was found
 
 -- what the code's answer stands for, by cases
-pub found_none : (v : ℕ) (t : code.Tried) {g : Found} → foundOf v t ≡ g → t.found ≡ false → g ≡ nothing
-unfolding foundOf
+pub found_none : (v : ℕ) (t : code.Tried) {g : Found} → found_of v t ≡ g → t.found ≡ false → g ≡ nothing
+unfolding found_of
 found_none v t e h = sym e ∙ ap (λ (b : Bool). cond b (bytes t.made (take v t.bytes)) nothing) h
 
-pub found_some : (v : ℕ) (t : code.Tried) {g : Found} → foundOf v t ≡ g → t.found ≡ true
+pub found_some : (v : ℕ) (t : code.Tried) {g : Found} → found_of v t ≡ g → t.found ≡ true
     → g ≡ bytes t.made (take v t.bytes)
-unfolding foundOf
+unfolding found_of
 found_some v t e h = sym e ∙ ap (λ (b : Bool). cond b (bytes t.made (take v t.bytes)) nothing) h

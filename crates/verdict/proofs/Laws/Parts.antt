@@ -10,8 +10,8 @@ pub row_next : (i w : ℕ) → (i + 1) * w ≡ i * w + w
 row_next i w = rw (add-one, suc-mul)
 
 -- a row below the n-th ends within n rows
-pub row-end : (i n w : ℕ) → i < n → i * w + w ≤ n * w
-row-end i n w h = rw (← suc-mul) (mul-le-mul_right w h)
+pub row_end : (i n w : ℕ) → i < n → i * w + w ≤ n * w
+row_end i n w h = rw (← suc-mul) (mul-le-mul_right w h)
 
 -- ---- the front part
 
@@ -27,8 +27,8 @@ module _ {X : Type 0} where
   get_d_front n l i d e h k = get_d_any l i d e k ∙ sym (get_or-take n l i e h)
 
   -- one element more behind the part in use
-  pub take-store : (l : List X) (i : ℕ) (x : X) → i < length l → take (i + 1) (set l i x) ≡ take i l ++ x ∷ []
-  take-store l i x h = rw add-one (take-suc-set l i x h)
+  pub take_store : (l : List X) (i : ℕ) (x : X) → i < length l → take (i + 1) (set l i x) ≡ take i l ++ x ∷ []
+  take_store l i x h = rw add-one (take-suc-set l i x h)
 
   -- the first of the elements from..to
   pub part-first : (l : List X) (i to : ℕ) (d : X) → i < to → i < length l
@@ -44,7 +44,7 @@ module _ {X : Type 0} where
   -- one element more is copied
   pub copied_more : (l k : List X) (i : ℕ) (d : X) → i < length l → i < length k → take i l ≡ take i k
       → take (i + 1) (set l i (get_or k i d)) ≡ take (i + 1) k
-  copied_more l k i d h j e = take-store l i (get_or k i d) h ∙ rw (e, add-one, take-suc k i d j)
+  copied_more l k i d h j e = take_store l i (get_or k i d) h ∙ rw (e, add-one, take-suc k i d j)
 
   -- no element is left
   pub part_none : (l : List X) (to : ℕ) → take (to - to) (drop to l) ≡ []

@@ -8,7 +8,7 @@ use Rattle.rules.specs.declared.types.Statement.{Statement}
 use Rattle.rules.specs.declared.types.AffineMap.{AffineMap}
 use Rattle.verdict.specs.Lists.{lots}
 use Rattle.verdict.specs.Meaning.{Algebra, given, values, joined}
-use Rattle.verdict.proofs.Laws.Parts.{take-store, part-first, part_none, get_d_front, back_none, back_more}
+use Rattle.verdict.proofs.Laws.Parts.{take_store, part-first, part_none, get_d_front, back_none, back_more}
 
 -- what an array of statements reads as past its end
 abbrev pub blank : Statement
@@ -33,7 +33,7 @@ module _ {X : Type 0} (A : Algebra X) where
       ≡ values A maps xs (take at vs) (take (to - i) (drop i ss))
   unfolding values
   values-more maps xs vs ss at i to v d h j k e =
-      rw (take-store vs at v h, part-first ss i to d j k, e)
+      rw (take_store vs at v h, part-first ss i to d j k, e)
 
   -- the next input's value behind the others; ys are the variables from its shares on
   pub inputs-more : (vs ys : List X) (k i n : ℕ) (v : X) → i < length vs → i < n → v ≡ joined A (take k ys)
@@ -41,7 +41,7 @@ module _ {X : Type 0} (A : Algebra X) where
       ≡ take i vs ++ map (joined A) (lots k (n - i) ys)
   inputs-more vs ys k i n v h j e =
       let left : n - i ≡ suc (n - (i + 1)) = omega arith in
-      rw (take-store vs i v h, left, e) (append_assoc (take i vs) _ _)
+      rw (take_store vs i v h, left, e) (append_assoc (take i vs) _ _)
 
   -- no statement is left
   pub values-none : (maps : List AffineMap) (xs vs : List X) (ss : List Statement) (to : ℕ)

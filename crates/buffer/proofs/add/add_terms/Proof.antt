@@ -3,7 +3,7 @@ use native.Mathlib.Omega.{arith}
 use borrow.Author.Rules.{rules}
 use lib.ListN.{length}
 use Rattle.buffer.proofs.Lent.Strides.{Back}
-use Rattle.buffer.proofs.Lent.Adding.{InAdd, add_start, add_done, add_back, add-asks, add-more}
+use Rattle.buffer.proofs.Lent.Adding.{InAdd, add_start, add_done, add_back, add_asks, add-more}
 use Rattle.buffer.proofs.add.add_terms.Statement.{statement}
 use Rattle.buffer.proofs.add.add_terms.Tie as tie
 
@@ -44,7 +44,7 @@ part-insert-term-end : tie.Need-slice-bounds-insert-term-end invariant-loop decr
 part-insert-term-end c = omega (arith, here c.before)
 
 insert-term-requires : tie.Need-insert-term-requires invariant-loop decreases-loop
-insert-term-requires c κs = add-asks c.before.before.before.loop.invariant (omega arith)
+insert-term-requires c κs = add_asks c.before.before.before.loop.invariant (omega arith)
 
 loop-less : tie.Need-loop-smaller invariant-loop decreases-loop
 loop-less c = search rules

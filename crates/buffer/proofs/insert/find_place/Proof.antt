@@ -5,8 +5,8 @@ use Prim.Native.Nat.{◌≤◌, ◌+◌, ◌*◌, ◌-◌, ◌/◌}
 use native.Mathlib.Omega.{arith}
 use borrow.Author.Rules.{rules}
 use lib.ListN.{length}
-use Rattle.buffer.proofs.Lent.Places.{Between, between-all, between_none, middle-fits, middle-lengths}
-use Rattle.buffer.proofs.Lent.Places.{between-told}
+use Rattle.buffer.proofs.Lent.Places.{Between, between_all, between_none, middle-fits, middle_lengths}
+use Rattle.buffer.proofs.Lent.Places.{between_told}
 use Rattle.buffer.proofs.insert.find_place.Statement.{statement}
 use Rattle.buffer.proofs.insert.find_place.Tie as tie
 
@@ -36,13 +36,13 @@ told : (c : tie.After-compare-powers invariant-loop decreases-loop) →
 told c =
     let l = c.before.before.before.before.loop in
     let a = c.before.before.before.before.before.before.before.args in
-    between-told a.b.now a.k a.t.now l.low l.high (omega arith) l.invariant c.compare-powers.result
+    between_told a.b.now a.k a.t.now l.low l.high (omega arith) l.invariant c.compare-powers.result
     c.compare-powers.ensures
 
 loop-holds : tie.Need-loop-init invariant-loop decreases-loop
 loop-holds c =
     let a = c.before.before.args in
-    between-all a.b.now a.k a.t.now c.before.before.requires
+    between_all a.b.now a.k a.t.now c.before.before.requires
 
 sub-middle : tie.Need-overflow-sub-middle invariant-loop decreases-loop
 sub-middle c = omega arith
@@ -81,7 +81,7 @@ compare-powers-requires : tie.Need-compare-powers-requires invariant-loop decrea
 compare-powers-requires c κs =
     let l = c.before.before.before.loop in
     let a = c.before.before.before.before.before.before.args in
-    middle-lengths a.b.now a.k a.t.now l.low l.high (omega arith) l.invariant
+    middle_lengths a.b.now a.k a.t.now l.low l.high (omega arith) l.invariant
 
 add_low : tie.Need-overflow-add-low invariant-loop decreases-loop
 add_low c = omega arith

@@ -6,8 +6,8 @@ use native.Mathlib.Omega.{arith}
 use native.Mathlib.Nat.{suc-mul, mul-le-mul_right}
 use lib.ListN.{length}
 use borrow.Author.Rules.{rules}
-use Rattle.buffer.proofs.Lent.Strides.{row-end, row_count, pos-of-ne}
-use Rattle.buffer.proofs.Lent.Outcomes.{there-same, there-less, ins-zero, ins-more, ins-less, ins-coef}
+use Rattle.buffer.proofs.Lent.Strides.{row_end, row_count, pos_of_ne}
+use Rattle.buffer.proofs.Lent.Outcomes.{there-same, there-less, ins_zero, ins_more, ins_less, ins_coef}
 use Rattle.field.specs.Xor as X
 use Rattle.buffer.proofs.insert.insert_term.Statement.{statement}
 use Rattle.buffer.proofs.insert.insert_term.Tie as tie
@@ -21,7 +21,7 @@ here : (c : tie.Then1) →
 here c =
     let a = c.before.before.before.before.before.args in
     let r = c.before.before.before.before.before.requires in (
-      row-end c.before.find-place.result a.k (length a.t.now) c.if1.true,
+      row_end c.before.find-place.result a.k (length a.t.now) c.if1.true,
       omega (arith, suc-mul a.k (length a.t.now), r.room),
     )
 
@@ -99,7 +99,7 @@ returns c =
     let y3 = c.before.before.before.before.if3 in
     let u = c.before.before.move_down in
     λ m'.
-    ins-less m' a.b.now a.k f.result a.t.now u.new.0 r.some r.room f.ensures y1.true
+    ins_less m' a.b.now a.k f.result a.t.now u.new.0 r.some r.room f.ensures y1.true
     (there-same a.b.now a.t.now a.k f.result r.some
     (omega (arith, r.room, suc-mul a.k (length a.t.now))) y1.true (sym q.ensures ∙ y2.true))
     y3.true u.ensures
@@ -121,10 +121,10 @@ returns-2 c =
     let q = c.before.before.before.before.compare-powers in
     let y2 = c.before.before.before.if2 in
     λ m'.
-    ins-coef m' a.b.now a.k f.result a.t.now r.some r.room f.ensures y1.true
+    ins_coef m' a.b.now a.k f.result a.t.now r.some r.room f.ensures y1.true
     (there-same a.b.now a.t.now a.k f.result r.some
     (omega (arith, r.room, suc-mul a.k (length a.t.now))) y1.true (sym q.ensures ∙ y2.true))
-    (pos-of-ne _ c.if3.false)
+    (pos_of_ne _ c.if3.false)
 
 shared-slice-read-if4 : tie.Need-shared-slice-read-if4
 shared-slice-read-if4 c = search rules
@@ -139,7 +139,7 @@ returns-3 c =
     let f = c.before.before.before.find-place in
     let y1 = c.before.before.if1 in
     λ m'.
-    ins-zero m' a.b.now a.k f.result a.t.now r.some f.ensures
+    ins_zero m' a.b.now a.k f.result a.t.now r.some f.ensures
     (λ l. ⊎_elim (λ w. there-less a.b.now a.t.now a.k f.result r.some
     (omega (arith, r.room, suc-mul a.k (length a.t.now))) f.ensures l (λ e. w.5.left (w.4.ensures ∙ e)))
     (λ w. absurd (omega (arith, w.left))) y1.branch) c.if4.true
@@ -183,10 +183,10 @@ returns-4 c =
     let u = c.before.before.before.before.before.before.move_up in
     let v = c.before.before.write-at in
     λ m'.
-    ins-more m' a.b.now a.k f.result a.t.now u.new.0 v.new.0 r.some r.room f.ensures
+    ins_more m' a.b.now a.k f.result a.t.now u.new.0 v.new.0 r.some r.room f.ensures
     (λ l. ⊎_elim (λ w. there-less a.b.now a.t.now a.k f.result r.some
     (omega (arith, r.room, suc-mul a.k (length a.t.now))) f.ensures l (λ e. w.5.left (w.4.ensures ∙ e)))
-    (λ w. absurd (omega (arith, w.left))) y1.branch) (pos-of-ne _ y4.false)
+    (λ w. absurd (omega (arith, w.left))) y1.branch) (pos_of_ne _ y4.false)
     u.ensures v.ensures
 
 pub insert-term-spec : {M : Type 1} → statement M

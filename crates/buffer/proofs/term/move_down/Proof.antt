@@ -4,7 +4,7 @@ use native.Mathlib.Omega.{arith}
 use native.Mathlib.Nat.{le_refl}
 use borrow.Author.Rules.{rules}
 use Rattle.buffer.specs.Move.{MovedDown}
-use Rattle.buffer.proofs.Lent.Moves.{down-none, down-more, down-all}
+use Rattle.buffer.proofs.Lent.Moves.{down_none, down_more, down_all}
 use Rattle.buffer.proofs.term.move_down.Statement.{statement}
 use Rattle.buffer.proofs.term.move_down.Tie as tie
 
@@ -15,7 +15,7 @@ abbrev decreases-loop : tie.decreases-loop
 decreases-loop b₀ from to by j₀ b j = to - j
 
 loop-holds : tie.Need-loop-init invariant-loop decreases-loop
-loop-holds c = (le_refl _, omega arith, down-none)
+loop-holds c = (le_refl _, omega arith, down_none)
 
 slice-read-b : tie.Need-slice-read-b invariant-loop decreases-loop
 slice-read-b c = search rules
@@ -35,13 +35,13 @@ loop-less c = search rules
 loop-again : tie.Need-loop-preserved invariant-loop decreases-loop
 loop-again c =
     let h = c.before.before.loop.invariant.2 in
-    (omega arith, omega arith, down-more h (omega arith) (omega arith) (omega arith))
+    (omega arith, omega arith, down_more h (omega arith) (omega arith) (omega arith))
 
 same_length : tie.Need-same-length invariant-loop decreases-loop
 same_length c = c.before.loop.invariant.2.size
 
 returns : tie.Need-returns invariant-loop decreases-loop
-returns c = down-all c.before.loop.invariant.2 (omega arith)
+returns c = down_all c.before.loop.invariant.2 (omega arith)
 
 pub move_down_spec : {M : Type 1} → statement M
 move_down_spec =

@@ -1,7 +1,7 @@
 -- The measures are no greater than where the second part ends. Assumes nothing.
 use Rattle.grammar.proofs.formula.joined.Statement.{statement}
 use Rattle.grammar.proofs.formula.joined.Tie as tie
-use Rattle.grammar.proofs.Laws.Measured.{greater-le}
+use Rattle.grammar.proofs.Laws.Measured.{greater_le}
 use Prim.Native.Nat.{ℕ, ◌+◌}
 use borrow.Author.Rules.{rules}
 use mathlib.Core.Path.{ap}
@@ -14,7 +14,7 @@ add-t4 : tie.Need-overflow-add-t4
 add-t4 c =
     let a = c.before.args.a in
     let b = c.before.args.b in
-    omega (arith, greater-le a.depth b.depth (a.operations + b.operations) (omega arith) (omega arith))
+    omega (arith, greater_le a.depth b.depth (a.operations + b.operations) (omega arith) (omega arith))
 
 add-t5 : tie.Need-overflow-add-t5
 add-t5 c = search rules

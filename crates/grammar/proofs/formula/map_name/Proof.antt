@@ -1,11 +1,11 @@
 -- The part before the mark has its form or not. Assumes nothing.
-use Rattle.grammar.proofs.Laws.Measured.{plainOk, plain_ok, mark-front}
+use Rattle.grammar.proofs.Laws.Measured.{plain_ok, plain_ok_lem, mark_front}
 use Rattle.grammar.proofs.formula.map_name.Statement.{statement}
 use Rattle.grammar.proofs.formula.map_name.Tie as tie
 use Rattle.grammar.specs.Measured.{leaf}
-use Rattle.tokens.specs.Answer.{nameRead}
-use Rattle.tokens.specs.Token.{is_some, readName, readPlain}
-use Rattle.tokens.specs.Ascii.{isMark}
+use Rattle.tokens.specs.Answer.{name_read}
+use Rattle.tokens.specs.Token.{is_some, read_name, read_plain}
+use Rattle.tokens.specs.Ascii.{is_mark}
 use Rattle.tokens.specs.Split.{until}
 use Rattle.grammar.specs.Formula.{front}
 use Rattle.tokens.specs.declared.token.NameForm.{NameForm}
@@ -19,19 +19,19 @@ use mathlib.Core.Path.{◌≡◌, sym, ap, ◌∙◌}
 -- whether the part has its form x
 answered : (d : tie.After-name) {x : NameForm} → d.name.result ≡ x
     → let a = d.before.before.before.before.args in
-    leaf (plainOk x) d.before.before.find-mark.result
-    ≡ leaf (is_some (readPlain (front (drop a.at a.f.now)))) (a.at + until isMark (drop a.at a.f.now))
+    leaf (plain_ok x) d.before.before.find-mark.result
+    ≡ leaf (is_some (read_plain (front (drop a.at a.f.now)))) (a.at + until is_mark (drop a.at a.f.now))
 answered d {x} k =
     let s = d.before.before.before.before in
     let a = s.args in
     let m = d.before.before.find-mark.result in
     let e = d.before.before.find-mark.ensures in
-    let part : plainOk x ≡ is_some (readPlain (front (drop a.at a.f.now))) =
-    plain_ok (front (drop a.at a.f.now))
-    (sym k ∙ d.name.ensures ∙ ap (λ (t : List ℕ). nameRead (readName t))
-    (d.before.part.ensures ∙ mark-front a.f.now a.at m s.requires e)) in
+    let part : plain_ok x ≡ is_some (read_plain (front (drop a.at a.f.now))) =
+    plain_ok_lem (front (drop a.at a.f.now))
+    (sym k ∙ d.name.ensures ∙ ap (λ (t : List ℕ). name_read (read_name t))
+    (d.before.part.ensures ∙ mark_front a.f.now a.at m s.requires e)) in
     ap (λ (b : Bool). leaf b m) part
-    ∙ ap (λ (n : ℕ). leaf (is_some (readPlain (front (drop a.at a.f.now)))) n) e
+    ∙ ap (λ (n : ℕ). leaf (is_some (read_plain (front (drop a.at a.f.now)))) n) e
 
 find-mark-requires : tie.Need-find-mark-requires
 find-mark-requires c κs = search rules

@@ -1,10 +1,10 @@
 -- The part before the mark has its form or not. Assumes nothing.
-use Rattle.grammar.proofs.Laws.Measured.{termOk, term-ok}
+use Rattle.grammar.proofs.Laws.Measured.{term_ok, term_ok_lem}
 use Rattle.grammar.proofs.formula.operand.Statement.{statement}
 use Rattle.grammar.proofs.formula.operand.Tie as tie
 use Rattle.grammar.specs.Measured.{leaf}
-use Rattle.tokens.specs.Answer.{termRead}
-use Rattle.tokens.specs.Token.{is_some, readTerm}
+use Rattle.tokens.specs.Answer.{term_read}
+use Rattle.tokens.specs.Token.{is_some, read_term}
 use Rattle.tokens.specs.declared.token.TermForm.{TermForm}
 use Prim.Native.Nat.{ℕ, ◌-◌}
 use borrow.Author.Rules.{rules}
@@ -16,12 +16,12 @@ use mathlib.Core.Path.{◌≡◌, sym, ap, ◌∙◌}
 -- whether the part has its form x
 answered : (d : tie.After-term) {x : TermForm} → d.term.result ≡ x
     → let a = d.before.before.before.args in
-    leaf (termOk x) a.mark ≡ leaf (is_some (readTerm (take (a.mark - a.at) (drop a.at a.f.now)))) a.mark
+    leaf (term_ok x) a.mark ≡ leaf (is_some (read_term (take (a.mark - a.at) (drop a.at a.f.now)))) a.mark
 answered d e =
     let a = d.before.before.before.args in
     ap (λ (b : Bool). leaf b a.mark)
-    (term-ok (take (a.mark - a.at) (drop a.at a.f.now))
-    (sym e ∙ d.term.ensures ∙ ap (λ (t : List ℕ). termRead (readTerm t)) d.before.part.ensures))
+    (term_ok_lem (take (a.mark - a.at) (drop a.at a.f.now))
+    (sym e ∙ d.term.ensures ∙ ap (λ (t : List ℕ). term_read (read_term t)) d.before.part.ensures))
 
 sub_part : tie.Need-overflow-sub-part
 sub_part c = search rules

@@ -1,7 +1,7 @@
 -- The ( stands at the mark, or not. Assumes nothing.
 use Rattle.grammar.proofs.formula.operation_at.Statement.{statement}
 use Rattle.grammar.proofs.formula.operation_at.Tie as tie
-use Rattle.grammar.proofs.Laws.Measured.{operation-opened, operation-none}
+use Rattle.grammar.proofs.Laws.Measured.{operation_opened, operation_none}
 use borrow.Author.Rules.{rules}
 use mathlib.Core.Path.{sym, ◌∙◌}
 use native.Mathlib.Omega.{arith}
@@ -23,13 +23,13 @@ returns c =
     let d = c.before.before in
     let s = d.before.before.before in
     c.operation-of.ensures
-    ∙ operation-opened s.args.f.now s.args.at s.args.mark s.requires.0 s.requires.1
+    ∙ operation_opened s.args.f.now s.args.at s.args.mark s.requires.0 s.requires.1
     (sym d.before.stands.ensures ∙ d.if1.true) c.before.part.ensures
 
 returns-2 : tie.Need-returns-2
 returns-2 c =
     let d = c.before.before.before in
-    operation-none d.args.f.now d.args.at d.args.mark d.requires.0 d.requires.1
+    operation_none d.args.f.now d.args.at d.args.mark d.requires.0 d.requires.1
     (sym c.before.stands.ensures ∙ c.if1.false)
 
 pub operation-at-spec : {M : Type 1} → statement M

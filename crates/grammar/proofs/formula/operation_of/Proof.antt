@@ -2,7 +2,7 @@
 use Rattle.grammar.proofs.formula.operation_of.Statement.{statement}
 use Rattle.grammar.proofs.formula.operation_of.Tie as tie
 use Rattle.tokens.specs.Ascii.{ascii}
-use Rattle.grammar.specs.Formula.{operationOf}
+use Rattle.grammar.specs.Formula.{operation_of}
 use borrow.Author.Rules.{rules}
 use mathlib.Core.Path.{sym, ◌∙◌}
 
@@ -13,7 +13,7 @@ same-requires : tie.Need-same-requires
 same-requires c κs = search rules
 
 returns : tie.Need-returns
-unfolding operationOf ascii
+unfolding operation_of ascii
 returns c =
     simp (sym c.before.same.ensures ∙ c.if1.true)
 
@@ -24,7 +24,7 @@ same-requires-2 : tie.Need-same-requires-2
 same-requires-2 c κs = search rules
 
 returns-2 : tie.Need-returns-2
-unfolding operationOf ascii
+unfolding operation_of ascii
 returns-2 c =
     let d1 = c.before.before.before in
     simp (
@@ -39,7 +39,7 @@ same-requires-3 : tie.Need-same-requires-3
 same-requires-3 c κs = search rules
 
 returns-3 : tie.Need-returns-3
-unfolding operationOf ascii
+unfolding operation_of ascii
 returns-3 c =
     let d2 = c.before.before.before in
     let d1 = d2.before.before.before in
@@ -50,7 +50,7 @@ returns-3 c =
     )
 
 returns-4 : tie.Need-returns-4
-unfolding operationOf ascii
+unfolding operation_of ascii
 returns-4 c =
     let d2 = c.before.before.before in
     let d1 = d2.before.before.before in

@@ -2,8 +2,8 @@
 use Prim.Native.Nat.{ℕ}
 use Rattle.grammar.proofs.line.count_field.Statement.{statement}
 use Rattle.grammar.proofs.line.count_field.Tie as tie
-use Rattle.tokens.specs.Answer.{numberRead}
-use Rattle.tokens.specs.Token.{readCount}
+use Rattle.tokens.specs.Answer.{number_read}
+use Rattle.tokens.specs.Token.{read_count}
 use borrow.Author.Rules.{rules}
 use mathlib.Core.List.{List}
 use mathlib.Core.Path.{ap, ◌∙◌}
@@ -18,7 +18,7 @@ count-requires : tie.Need-count-requires
 count-requires c κs = search rules
 
 returns : tie.Need-returns
-returns c = c.count.ensures ∙ ap (λ (t : List ℕ). numberRead (readCount t)) (c.before.part.ensures
+returns c = c.count.ensures ∙ ap (λ (t : List ℕ). number_read (read_count t)) (c.before.part.ensures
     ∙ c.before.before.field.ensures.holds)
 
 pub count-field-spec : {M : Type 1} → statement M

@@ -1,5 +1,5 @@
 -- The name of the field, where it has no part. Assumes nothing.
-use Rattle.grammar.proofs.Laws.Fields.{plain-yes, plain-no, plain-none}
+use Rattle.grammar.proofs.Laws.Fields.{plain-yes, plain_no, plain-none}
 use Rattle.grammar.proofs.line.plain_field.Statement.{statement}
 use Rattle.grammar.proofs.line.plain_field.Tie as tie
 use Rattle.grammar.specs.Line.{name_at}
@@ -24,7 +24,7 @@ returns c =
 returns-2 : tie.Need-returns-2
 returns-2 c =
     let d = c.before.before.before.before.before in
-    plain-no d.before.before.args.s.now _ c.before.before.before.n.given.0.0
+    plain_no d.before.before.args.s.now _ c.before.before.before.n.given.0.0
     (ap (name_at d.before.before.args.s.now) (sym c.before.before.before.n.given.1)
     ∙ d.name-field.ensures) c.if1.false
 

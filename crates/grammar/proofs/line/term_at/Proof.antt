@@ -1,7 +1,7 @@
 -- What the form of the bytes gives, at their place. Assumes nothing.
-use Rattle.tokens.specs.Answer.{termRead}
-use Rattle.tokens.specs.Token.{readTerm}
-use Rattle.grammar.proofs.Laws.Fields.{term-here}
+use Rattle.tokens.specs.Answer.{term_read}
+use Rattle.tokens.specs.Token.{read_term}
+use Rattle.grammar.proofs.Laws.Fields.{term_here_lem}
 use Prim.Native.Nat.{ℕ}
 use lib.ListN.{take, drop}
 use mathlib.Core.Path.{◌≡◌, ap, sym, ◌∙◌}
@@ -13,8 +13,8 @@ use Rattle.grammar.proofs.line.term_at.Tie as tie
 -- the form is that of the bytes at the place
 answered : (d : tie.After-term)
     → let a = d.before.before.before.args in
-    d.term.result ≡ termRead (readTerm (take a.len (drop a.at a.s.now)))
-answered d = d.term.ensures ∙ ap (λ (u : List ℕ). termRead (readTerm u)) d.before.part.ensures
+    d.term.result ≡ term_read (read_term (take a.len (drop a.at a.s.now)))
+answered d = d.term.ensures ∙ ap (λ (u : List ℕ). term_read (read_term u)) d.before.part.ensures
 
 part-requires : tie.Need-part-requires
 part-requires c κs = search rules
@@ -35,19 +35,19 @@ returns : tie.Need-returns
 returns c =
     let d = c.before.before.before in
     let a = d.before.before.before.args in
-    term-here a.s.now a.at a.len (sym c.before.n.given.1 ∙ answered d)
+    term_here_lem a.s.now a.at a.len (sym c.before.n.given.1 ∙ answered d)
 
 returns-2 : tie.Need-returns-2
 returns-2 c =
     let d = c.before.before.before in
     let a = d.before.before.before.args in
-    term-here a.s.now a.at a.len (sym c.before.v.given.1 ∙ answered d)
+    term_here_lem a.s.now a.at a.len (sym c.before.v.given.1 ∙ answered d)
 
 returns-3 : tie.Need-returns-3
 returns-3 c =
     let d = c.before.before in
     let a = d.before.before.before.args in
-    term-here a.s.now a.at a.len (sym c.enum_told.given.1 ∙ answered d)
+    term_here_lem a.s.now a.at a.len (sym c.enum_told.given.1 ∙ answered d)
 
 pub term-at-spec : {M : Type 1} → statement M
 term-at-spec =

@@ -1,15 +1,15 @@
 -- The invariant: the first `j` columns are read. Assumes nothing.
 use Prim.Native.Nat.{ℕ, ◌+◌, ◌-◌, ◌≤◌, ◌<◌}
-use Rattle.tokens.proofs.Laws.Answers.{number-back}
-use Rattle.grammar.proofs.Laws.Each.{onto, onto-none, each-pass, each-fail, each-done}
-use Rattle.grammar.proofs.Laws.Each.{counted-right, counted-wrong}
+use Rattle.tokens.proofs.Laws.Answers.{number_back}
+use Rattle.grammar.proofs.Laws.Each.{onto, onto-none, each-pass, each_fail, each-done}
+use Rattle.grammar.proofs.Laws.Each.{counted-right, counted_wrong}
 use Rattle.grammar.proofs.lists.read_columns.Statement.{statement}
 use Rattle.grammar.proofs.lists.read_columns.Tie as tie
-use Rattle.grammar.specs.Line.{piecesIn}
-use Rattle.grammar.specs.Record.{each, field, mayHave}
+use Rattle.grammar.specs.Line.{pieces_in}
+use Rattle.grammar.specs.Record.{each, field, may_have}
 use Rattle.tokens.specs.Answer.{number_at}
-use Rattle.grammar.specs.Recorded.{columnsOf}
-use Rattle.tokens.specs.Token.{readHex}
+use Rattle.grammar.specs.Recorded.{columns_of}
+use Rattle.tokens.specs.Token.{read_hex}
 use Rattle.tokens.specs.declared.word.Word.TheVariants as Word
 use borrow.Author.Rules.{rules}
 use borrow.Author.Tests.{eqb-true, not-true, not-false}
@@ -23,8 +23,8 @@ use native.Mathlib.Numerals.{add-one}
 use native.Mathlib.Omega.{arith}
 
 abbrev invariant-loop : tie.invariant-loop
-invariant-loop s l bytes₀ j₀ bytes j = (j ≤ 8) × (length bytes ≡ 8) × (length (piecesIn s l) ≡ 11)
-    × (columnsOf (piecesIn s l) ≡ onto (take j bytes) (each readHex (drop (3 + j) (piecesIn s l))))
+invariant-loop s l bytes₀ j₀ bytes j = (j ≤ 8) × (length bytes ≡ 8) × (length (pieces_in s l) ≡ 11)
+    × (columns_of (pieces_in s l) ≡ onto (take j bytes) (each read_hex (drop (3 + j) (pieces_in s l))))
 
 abbrev decreases-loop : tie.decreases-loop
 decreases-loop s l bytes₀ j₀ bytes j = 8 - j
@@ -33,20 +33,20 @@ fits-word-requires : tie.Need-fits-word-requires invariant-loop decreases-loop
 fits-word-requires c κs = search rules
 
 returns : tie.Need-returns invariant-loop decreases-loop
-unfolding columnsOf
+unfolding columns_of
 returns c =
     let a = c.before.before.before.args in
-    let ps = piecesIn a.s.now a.l in
-    counted-wrong Word.Map ps (each readHex (drop 3 ps))
+    let ps = pieces_in a.s.now a.l in
+    counted_wrong Word.Map ps (each read_hex (drop 3 ps))
     (sym c.before.fits_word.ensures ∙ not-true c.before.fits_word.result c.if1.true)
 
 loop-holds : tie.Need-loop-init invariant-loop decreases-loop
-unfolding columnsOf
+unfolding columns_of
 loop-holds c =
     let a = c.before.before.before.args in
-    let ps = piecesIn a.s.now a.l in
-    let o = each readHex (drop 3 ps) in
-    let fits : mayHave Word.Map (length ps) ≡ true =
+    let ps = pieces_in a.s.now a.l in
+    let o = each read_hex (drop 3 ps) in
+    let fits : may_have Word.Map (length ps) ≡ true =
     sym c.before.fits_word.ensures ∙ not-false c.before.fits_word.result c.if1.false in
     (omega arith, refl, eqb-true (length ps) 11 fits, counted-right Word.Map ps o fits ∙ onto-none o)
 
@@ -69,10 +69,10 @@ returns-2 : tie.Need-returns-2 invariant-loop decreases-loop
 returns-2 c =
     let d = c.before.before in
     let at = c.before.before.before.before in
-    let ps = piecesIn at.before.before.before.before.args.s.now
+    let ps = pieces_in at.before.before.before.before.args.s.now
     at.before.before.before.before.args.l in
-    each-fail readHex ps (3 + at.loop.j) (take at.loop.j at.loop.bytes) at.loop.invariant.3 (omega arith)
-    (sym (number-back (readHex (field (3 + at.loop.j) ps)) d.hex-field.ensures)
+    each_fail read_hex ps (3 + at.loop.j) (take at.loop.j at.loop.bytes) at.loop.invariant.3 (omega arith)
+    (sym (number_back (read_hex (field (3 + at.loop.j) ps)) d.hex-field.ensures)
     ∙ ap number_at c.enum_told.given.1)
 
 add-j : tie.Need-overflow-add-j invariant-loop decreases-loop
@@ -85,7 +85,7 @@ loop-again : tie.Need-loop-preserved invariant-loop decreases-loop
 loop-again c =
     let d = c.before.before.before in
     let at = c.before.before.before.before.before in
-    let ps = piecesIn at.before.before.before.before.args.s.now
+    let ps = pieces_in at.before.before.before.before.args.s.now
     at.before.before.before.before.args.l in
     let j = at.loop.j in
     let v = c.before.v.given.0.0 in
@@ -96,20 +96,20 @@ loop-again c =
       omega arith,
       length-set at.loop.bytes j v ∙ at.loop.invariant.1,
       at.loop.invariant.2,
-      each-pass readHex ps (3 + j) (take j at.loop.bytes) at.loop.invariant.3 v (omega arith)
-          (sym (number-back (readHex (field (3 + j) ps)) d.hex-field.ensures)
+      each-pass read_hex ps (3 + j) (take j at.loop.bytes) at.loop.invariant.3 v (omega arith)
+          (sym (number_back (read_hex (field (3 + j) ps)) d.hex-field.ensures)
           ∙ ap number_at c.before.v.given.1)
-          ∙ ap (λ (k : ℕ). onto (take j at.loop.bytes ++ v ∷ []) (each readHex (drop k ps))) place
-          ∙ ap (λ (acc : List ℕ). onto acc (each readHex (drop (3 + (j + 1)) ps))) (sym longer),
+          ∙ ap (λ (k : ℕ). onto (take j at.loop.bytes ++ v ∷ []) (each read_hex (drop k ps))) place
+          ∙ ap (λ (acc : List ℕ). onto acc (each read_hex (drop (3 + (j + 1)) ps))) (sym longer),
     )
 
 returns-3 : tie.Need-returns-3 invariant-loop decreases-loop
 returns-3 c =
     let at = c.before in
-    let ps = piecesIn at.before.before.before.before.args.s.now
+    let ps = pieces_in at.before.before.before.before.args.s.now
     at.before.before.before.before.args.l in
     ap some (sym (take_all at.loop.j at.loop.bytes (omega arith)))
-    ∙ each-done readHex ps (3 + at.loop.j) (take at.loop.j at.loop.bytes) at.loop.invariant.3 (omega arith)
+    ∙ each-done read_hex ps (3 + at.loop.j) (take at.loop.j at.loop.bytes) at.loop.invariant.3 (omega arith)
 
 pub read-columns-spec : {M : Type 1} → statement M
 read-columns-spec =

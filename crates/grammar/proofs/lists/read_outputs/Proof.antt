@@ -1,15 +1,15 @@
 -- The invariant: the first `j` names are read. Assumes nothing.
 use Prim.Native.Nat.{ℕ, ◌+◌, ◌-◌, ◌≤◌, ◌<◌}
-use Rattle.grammar.proofs.Laws.Each.{onto, onto-none, each-pass, each-fail, each-done}
-use Rattle.grammar.proofs.Laws.Each.{counted-right, counted-wrong, none_read}
+use Rattle.grammar.proofs.Laws.Each.{onto, onto-none, each-pass, each_fail, each-done}
+use Rattle.grammar.proofs.Laws.Each.{counted-right, counted_wrong, none_read}
 use Rattle.tokens.proofs.Laws.Flags.{and-true}
 use Rattle.grammar.proofs.lists.read_outputs.Statement.{statement}
 use Rattle.grammar.proofs.lists.read_outputs.Tie as tie
-use Rattle.grammar.specs.Line.{piecesIn, name_at}
-use Rattle.grammar.specs.Line.{nameIn}
-use Rattle.grammar.specs.Record.{each, mayHave}
-use Rattle.grammar.specs.Recorded.{names_of, namesRead}
-use Rattle.tokens.specs.Token.{Name, readName}
+use Rattle.grammar.specs.Line.{pieces_in, name_at}
+use Rattle.grammar.specs.Line.{name_in}
+use Rattle.grammar.specs.Record.{each, may_have}
+use Rattle.grammar.specs.Recorded.{names_of, names_read}
+use Rattle.tokens.specs.Token.{Name, read_name}
 use Rattle.tokens.specs.declared.word.Word.TheVariants as Word
 use borrow.Author.Rules.{rules}
 use borrow.Author.Tests.{leb-true, not-true, not-false}
@@ -24,8 +24,8 @@ use native.Mathlib.Omega.{arith}
 
 abbrev invariant-loop : tie.invariant-loop
 invariant-loop s l none items₀ n j₀ items j =
-    (j + 1 ≤ n) × (length items ≡ 8) × (n ≤ 9) × (length (piecesIn s l) ≡ n)
-    × (names_of (piecesIn s l) ≡ onto (map (nameIn s) (take j items)) (each readName (drop (1 + j) (piecesIn s l))))
+    (j + 1 ≤ n) × (length items ≡ 8) × (n ≤ 9) × (length (pieces_in s l) ≡ n)
+    × (names_of (pieces_in s l) ≡ onto (map (name_in s) (take j items)) (each read_name (drop (1 + j) (pieces_in s l))))
 
 abbrev decreases-loop : tie.decreases-loop
 decreases-loop s l none items₀ n j₀ items j = n - j
@@ -33,8 +33,8 @@ decreases-loop s l none items₀ n j₀ items j = n - j
 -- whether the line has a number of fields that an output may have
 told : (d : tie.After-may-have invariant-loop decreases-loop)
     → (let a = d.before.before.before.before.before.args in
-    d.may-have.result ≡ mayHave Word.Output (length (piecesIn a.s.now a.l)))
-told d = d.may-have.ensures ∙ ap (mayHave Word.Output) d.before.piece-count.ensures
+    d.may-have.result ≡ may_have Word.Output (length (pieces_in a.s.now a.l)))
+told d = d.may-have.ensures ∙ ap (may_have Word.Output) d.before.piece-count.ensures
 
 no-outputs-requires : tie.Need-no-outputs-requires invariant-loop decreases-loop
 no-outputs-requires c κs = search rules
@@ -50,9 +50,9 @@ unfolding names_of
 returns c =
     let d = c.before.before.before.before in
     let a = d.before.before.args in
-    let ps = piecesIn a.s.now a.l in
+    let ps = pieces_in a.s.now a.l in
     none_read a.s.now a.l d.no-outputs.result d.no-outputs.ensures
-    (counted-wrong Word.Output ps (each readName (drop 1 ps))
+    (counted_wrong Word.Output ps (each read_name (drop 1 ps))
     (sym (told c.before) ∙ not-true c.before.may-have.result c.if1.true))
 
 loop-holds : tie.Need-loop-init invariant-loop decreases-loop
@@ -60,10 +60,10 @@ unfolding names_of
 loop-holds c =
     let d = c.before.before in
     let a = d.before.before.before.before.args in
-    let ps = piecesIn a.s.now a.l in
+    let ps = pieces_in a.s.now a.l in
     let size = d.piece-count.ensures in
-    let o = each readName (drop 1 ps) in
-    let fits : mayHave Word.Output (length ps) ≡ true =
+    let o = each read_name (drop 1 ps) in
+    let fits : may_have Word.Output (length ps) ≡ true =
     sym (told c.before) ∙ not-false c.before.may-have.result c.if1.false in
     let ends = and-true (leb 2 (length ps)) (leb (length ps) 9) fits in (
       omega (arith, size, leb-true 2 (length ps) ends.0),
@@ -103,7 +103,7 @@ returns-2 c =
     let t = a.s.now in
     let j = at.loop.j in
     none_read t a.l made.no-outputs.result made.no-outputs.ensures
-    (each-fail readName (piecesIn t a.l) (1 + j) (map (nameIn t) (take j at.loop.items)) at.loop.invariant.4
+    (each_fail read_name (pieces_in t a.l) (1 + j) (map (name_in t) (take j at.loop.items)) at.loop.invariant.4
     (omega arith) (sym d.name-field.ensures ∙ ap (name_at t) c.enum_told.given.1))
 
 add-j : tie.Need-overflow-add-j invariant-loop decreases-loop
@@ -118,7 +118,7 @@ loop-again c =
     let at = c.before.before.before.before.before in
     let a = at.before.before.before.before.before.before.before.args in
     let t = a.s.now in
-    let ps = piecesIn t a.l in
+    let ps = pieces_in t a.l in
     let j = at.loop.j in
     let x = c.before.x.given.0.0 in
     let items = at.loop.items in
@@ -129,15 +129,15 @@ loop-again c =
       length-set items j x ∙ at.loop.invariant.1,
       at.loop.invariant.2,
       at.loop.invariant.3,
-      each-pass readName ps (1 + j) (map (nameIn t) (take j items)) at.loop.invariant.4 (nameIn t x) (omega arith)
+      each-pass read_name ps (1 + j) (map (name_in t) (take j items)) at.loop.invariant.4 (name_in t x) (omega arith)
           (sym d.name-field.ensures ∙ ap (name_at t) c.before.x.given.1)
-          ∙ ap (λ (k : ℕ). onto (map (nameIn t) (take j items) ++ nameIn t x ∷ []) (each readName (drop k ps))) place
-          ∙ ap (λ (acc : List Name). onto acc (each readName (drop (1 + (j + 1)) ps)))
-          (sym (ap (map (nameIn t)) longer ∙ map-append (nameIn t) (take j items) (x ∷ []))),
+          ∙ ap (λ (k : ℕ). onto (map (name_in t) (take j items) ++ name_in t x ∷ []) (each read_name (drop k ps))) place
+          ∙ ap (λ (acc : List Name). onto acc (each read_name (drop (1 + (j + 1)) ps)))
+          (sym (ap (map (name_in t)) longer ∙ map-append (name_in t) (take j items) (x ∷ []))),
     )
 
 returns-3 : tie.Need-returns-3 invariant-loop decreases-loop
-unfolding namesRead
+unfolding names_read
 returns-3 c =
     let at = c.before in
     let a = at.before.before.before.before.before.before.before.args in
@@ -146,7 +146,7 @@ returns-3 c =
     record {
       listed = record { few = omega (arith, at.loop.invariant.0, at.loop.invariant.2); size = at.loop.invariant.1 };
       names =
-          each-done readName (piecesIn t a.l) (1 + j) (map (nameIn t) (take j at.loop.items)) at.loop.invariant.4
+          each-done read_name (pieces_in t a.l) (1 + j) (map (name_in t) (take j at.loop.items)) at.loop.invariant.4
           (omega arith);
     }
 

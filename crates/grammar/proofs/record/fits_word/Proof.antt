@@ -1,7 +1,7 @@
 -- The number of pieces decides. Assumes nothing.
 use Rattle.grammar.proofs.record.fits_word.Statement.{statement}
 use Rattle.grammar.proofs.record.fits_word.Tie as tie
-use Rattle.grammar.specs.Record.{mayHave}
+use Rattle.grammar.specs.Record.{may_have}
 use borrow.Author.Rules.{rules}
 use mathlib.Core.Path.{ap, ◌∙◌}
 
@@ -12,7 +12,7 @@ may-have-requires : tie.Need-may-have-requires
 may-have-requires c κs = search rules
 
 returns : tie.Need-returns
-returns c = c.may-have.ensures ∙ ap (mayHave c.before.before.before.args.w) c.before.piece-count.ensures
+returns c = c.may-have.ensures ∙ ap (may_have c.before.before.before.args.w) c.before.piece-count.ensures
 
 pub fits-word-spec : {M : Type 1} → statement M
 fits-word-spec = tie.close (tie.spec piece-count-requires may-have-requires returns)

@@ -2,7 +2,7 @@
 use Prim.Native.Nat.{ℕ}
 use Rattle.grammar.proofs.record.piece_count.Statement.{statement}
 use Rattle.grammar.proofs.record.piece_count.Tie as tie
-use Rattle.grammar.specs.Line.{piecesIn}
+use Rattle.grammar.specs.Line.{pieces_in}
 use Rattle.tokens.specs.Split.{pieces}
 use borrow.Author.Rules.{rules}
 use lib.ListN.{length}
@@ -16,7 +16,7 @@ count-requires : tie.Need-count-requires
 count-requires c κs = search rules
 
 returns : tie.Need-returns
-unfolding piecesIn
+unfolding pieces_in
 returns c = c.count.ensures ∙ ap (λ (t : List ℕ). length (pieces 9 t)) c.before.part.ensures
 
 pub piece-count-spec : {M : Type 1} → statement M

@@ -1,13 +1,13 @@
 -- The number of fields is one that the word may not have, or the word is known in each arm and each field is read by
 -- its form. Assumes nothing.
 use Prim.Native.Nat.{ℕ}
-use Rattle.tokens.proofs.Laws.Answers.{number-back}
-use Rattle.tokens.specs.Token.{◌>>=◌, Name, Term, readCount, readHex}
+use Rattle.tokens.proofs.Laws.Answers.{number_back}
+use Rattle.tokens.specs.Token.{◌>>=◌, Name, Term, read_count, read_hex}
 use Rattle.tokens.specs.declared.word.Word.{Word}
-use Rattle.grammar.specs.Line.{piecesIn}
-use Rattle.grammar.specs.Record.{Form, Record, shares, input, result, set, field, mayHave, assigned, readFields}
-use Rattle.grammar.specs.Record.{recordFor}
-use Rattle.grammar.specs.Recorded.{recordIn, columnsOf, formulaOf, names_of}
+use Rattle.grammar.specs.Line.{pieces_in}
+use Rattle.grammar.specs.Record.{Form, Record, shares, input, result, set, field, may_have, assigned, read_fields}
+use Rattle.grammar.specs.Record.{record_for}
+use Rattle.grammar.specs.Recorded.{record_in, columns_of, formula_of, names_of}
 use lib.ListN.{length}
 use mathlib.Core.Bool.{Bool, true, cond}
 use mathlib.Core.List.{List}
@@ -19,24 +19,24 @@ use Rattle.grammar.proofs.record.record.Tie as tie
 
 -- the pieces of the line
 abbrev ps : tie.Then1 → List (List ℕ)
-ps d = let a = d.before.before.before.args in piecesIn a.s.now a.l
+ps d = let a = d.before.before.before.args in pieces_in a.s.now a.l
 
 -- the line has a number of fields that its word may have
 module _ (d : tie.Then1) {v : Word} (told : d.before.before.before.args.w ≡ v) where
-  known : mayHave v (length (ps d)) ≡ true
-  known = ap (λ (x : Word). mayHave x (length (ps d))) (sym told) ∙ sym d.before.fits_word.ensures ∙ d.if1.true
+  known : may_have v (length (ps d)) ≡ true
+  known = ap (λ (x : Word). may_have x (length (ps d))) (sym told) ∙ sym d.before.fits_word.ensures ∙ d.if1.true
 
   -- the record that its fields make
-  made : {o : Option Record} → o ≡ readFields v (ps d)
-      → o ≡ recordFor d.before.before.before.args.w (ps d)
-  unfolding recordFor
+  made : {o : Option Record} → o ≡ read_fields v (ps d)
+      → o ≡ record_for d.before.before.before.args.w (ps d)
+  unfolding record_for
   made q =
-      q ∙ sym (ap (λ (b : Bool). cond b (readFields v (ps d)) none) known)
-      ∙ ap (λ (x : Word). recordFor x (ps d)) (sym told)
+      q ∙ sym (ap (λ (b : Bool). cond b (read_fields v (ps d)) none) known)
+      ∙ ap (λ (x : Word). record_for x (ps d)) (sym told)
 
   -- the statement of its form
   stated : {o : Option Record} {f g : Option Form} → o ≡ assigned (ps d) f → f ≡ g
-      → assigned (ps d) g ≡ readFields v (ps d) → o ≡ recordFor d.before.before.before.args.w (ps d)
+      → assigned (ps d) g ≡ read_fields v (ps d) → o ≡ record_for d.before.before.before.args.w (ps d)
   stated e q k = made (e ∙ ap (assigned (ps d)) q ∙ k)
 
 fits-word-requires : tie.Need-fits-word-requires
@@ -130,15 +130,15 @@ enum-told-14 : tie.Need-enum-told-14
 enum-told-14 c = search rules
 
 returns : tie.Need-returns
-unfolding recordIn readFields
+unfolding record_in read_fields
 returns c =
     let d = c.before.before.before in
     made d c.before.enum_told.given.1
     (ap (λ (o : Option ℕ). o >>= λ k. some (shares k))
-    (number-back (readCount (field 1 (ps d))) c.count-field.ensures))
+    (number_back (read_count (field 1 (ps d))) c.count-field.ensures))
 
 returns-2 : tie.Need-returns-2
-unfolding recordIn readFields columnsOf
+unfolding record_in read_fields columns_of
 returns-2 c =
     let d = c.before.before.before.before in
     let told = c.before.before.enum-told2.given.1 in
@@ -146,80 +146,80 @@ returns-2 c =
     (simp (
       known d told,
       ← c.before.plain-field.ensures,
-      ← (number-back (readHex (field 2 (ps d))) c.hex-field.ensures),
+      ← (number_back (read_hex (field 2 (ps d))) c.hex-field.ensures),
     ))
 
 returns-3 : tie.Need-returns-3
-unfolding recordIn readFields
+unfolding record_in read_fields
 returns-3 c =
     made c.before.before.before c.before.enum-told3.given.1
     (ap (λ (o : Option Name). o >>= λ n. some (input n)) c.plain-field2.ensures)
 
 returns-4 : tie.Need-returns-4
-unfolding recordIn readFields
+unfolding record_in read_fields
 returns-4 c = made c.before.before c.enum-told4.given.1 refl
 
 returns-5 : tie.Need-returns-5
-unfolding readFields
+unfolding read_fields
 returns-5 c =
     let d = c.before in
     stated d.before.before.before d.before.enum-told5.given.1 c.assign.ensures
     (ap (λ (o : Option Term). o >>= λ a. some (set a)) d.term-field.ensures) refl
 
 returns-6 : tie.Need-returns-6
-unfolding readFields
+unfolding read_fields
 returns-6 c =
     let d = c.before in
     stated d.before.before.before d.before.enum-told6.given.1 c.assign2.ensures
     d.two-form.ensures refl
 
 returns-7 : tie.Need-returns-7
-unfolding readFields
+unfolding read_fields
 returns-7 c =
     let d = c.before in
     stated d.before.before.before d.before.enum-told7.given.1 c.assign3.ensures
     d.two-form2.ensures refl
 
 returns-8 : tie.Need-returns-8
-unfolding readFields
+unfolding read_fields
 returns-8 c =
     let d = c.before in
     stated d.before.before.before d.before.enum-told8.given.1 c.assign4.ensures
     d.app-form.ensures refl
 
 returns-9 : tie.Need-returns-9
-unfolding recordIn readFields formulaOf
+unfolding record_in read_fields formula_of
 returns-9 c =
     let d = c.before.before.before in
     let told = c.before.enum-told9.given.1 in
     made d told (simp (known d told, ← c.name-field.ensures))
 
 returns-10 : tie.Need-returns-10
-unfolding readFields
+unfolding read_fields
 returns-10 c = made c.before.before.before c.before.enum-told10.given.1 c.assign5.ensures
 
 returns-11 : tie.Need-returns-11
-unfolding recordIn readFields
+unfolding record_in read_fields
 returns-11 c =
     made c.before.before.before c.before.enum-told11.given.1
     (ap (λ (o : Option Name). o >>= λ n. some (result n)) c.name-field2.ensures)
 
 returns-12 : tie.Need-returns-12
-unfolding recordIn readFields
+unfolding record_in read_fields
 returns-12 c = made c.before.before c.enum-told12.given.1 refl
 
 returns-13 : tie.Need-returns-13
-unfolding recordIn readFields names_of
+unfolding record_in read_fields names_of
 returns-13 c =
     let told = c.enum-told13.given.1 in
     made c.before.before told (simp (known c.before.before told))
 
 returns-14 : tie.Need-returns-14
-unfolding recordIn readFields
+unfolding record_in read_fields
 returns-14 c = made c.before.before c.enum-told14.given.1 refl
 
 returns-15 : tie.Need-returns-15
-unfolding recordIn recordFor
+unfolding record_in record_for
 returns-15 c = simp (← c.before.fits_word.ensures, c.if1.false)
 
 pub record-spec : {M : Type 1} → statement M

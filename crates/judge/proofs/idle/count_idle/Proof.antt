@@ -9,16 +9,16 @@ use mathlib.Core.Bool.{Bool}
 use mathlib.Core.List.{List}
 use mathlib.Core.Logic.{⊎_elim}
 use mathlib.Core.Path.{◌≡◌, ap, sym, ◌∙◌}
-use Rattle.poly.specs.Occurs.{someOccurs}
+use Rattle.poly.specs.Occurs.{some_occurs}
 use Rattle.verdict.specs.Idle.{failing}
-use Rattle.values.specs.Shelf.{termsAt}
+use Rattle.values.specs.Shelf.{terms_at}
 use Rattle.judge.proofs.Laws.Occurring.{failing-pass, failing-more}
 use Rattle.judge.proofs.idle.count_idle.Statement.{statement}
 use Rattle.judge.proofs.idle.count_idle.Tie as tie
 
 -- a share of input i occurs
 abbrev test : ℕ → List ℕ → ℕ → ℕ → ℕ → Bool
-test shares b k w = λ (i : ℕ). someOccurs (i * shares) shares (termsAt w b 0 k)
+test shares b k w = λ (i : ℕ). some_occurs (i * shares) shares (terms_at w b 0 k)
 
 abbrev invariant-loop : tie.invariant-loop
 invariant-loop inputs shares b k w count₀ i₀ count i =

@@ -1,7 +1,7 @@
 -- `judge::idle::idle` meets its contract. The result is loaded, and its terms are looked through. Assumes nothing.
 use mathlib.Core.Path.{refl}
 use borrow.Author.Rules.{rules}
-use Rattle.judge.proofs.Laws.Lasts.{origin-narrow-at, located-at}
+use Rattle.judge.proofs.Laws.Lasts.{origin-narrow-at, located_at}
 use Rattle.judge.proofs.Laws.Idling.{result-load, result-held, result-idle}
 use Rattle.judge.proofs.idle.idle.Statement.{statement}
 use Rattle.judge.proofs.idle.idle.Tie as tie
@@ -22,7 +22,7 @@ load-requires c κs =
     let s = c.before.before.before.before.before.before in
     let origin-scope = c.before.before.before.origin-scope in
     let place = c.before.before.place in
-    result-load s.requires (located-at s.args.r s.args.d _ _ origin-scope.ensures place.ensures)
+    result-load s.requires (located_at s.args.r s.args.d _ _ origin-scope.ensures place.ensures)
 
 size-of-requires : tie.Need-size-of-requires
 size-of-requires c κs = search rules
@@ -32,7 +32,7 @@ count-idle-requires c κs =
     let s = c.before.before.before.before.before.before.before.before.before.before.before in
     let origin-scope = c.before.before.before.before.before.before.before.before.origin-scope in
     let place = c.before.before.before.before.before.before.before.place in
-    result-held s.requires (located-at s.args.r s.args.d _ _ origin-scope.ensures place.ensures)
+    result-held s.requires (located_at s.args.r s.args.d _ _ origin-scope.ensures place.ensures)
     c.type_size.ensures c.before.before.before.before.load.ensures
 
 same_length : tie.Need-same-length
@@ -43,7 +43,7 @@ returns c =
     let s = c.before.before.before.before.before.before.before.before.before.before.before.before in
     let origin-scope = c.before.before.before.before.before.before.before.before.before.origin-scope in
     let place = c.before.before.before.before.before.before.before.before.place in
-    result-idle s.requires (located-at s.args.r s.args.d _ _ origin-scope.ensures place.ensures)
+    result-idle s.requires (located_at s.args.r s.args.d _ _ origin-scope.ensures place.ensures)
     c.before.type_size.ensures c.before.before.before.before.before.load.ensures c.count-idle.ensures
 
 pub idle_spec : {M : Type 1} → statement M

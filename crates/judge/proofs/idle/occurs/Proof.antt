@@ -5,19 +5,19 @@ use native.Mathlib.Omega.{arith}
 use Prim.Native.Nat.{◌≤◌, ◌-◌}
 use mathlib.Core.Path.{◌≡◌, sym}
 use Rattle.poly.specs.Occurs.{occurs}
-use Rattle.values.specs.Shelf.{termsAt}
-use Rattle.judge.proofs.Laws.Occurring.{term-inside, occurs-begin, occurs-pass, occurs-stop, occurs-done}
+use Rattle.values.specs.Shelf.{terms_at}
+use Rattle.judge.proofs.Laws.Occurring.{term-inside, occurs_begin, occurs-pass, occurs-stop, occurs-done}
 use Rattle.judge.proofs.idle.occurs.Statement.{statement}
 use Rattle.judge.proofs.idle.occurs.Tie as tie
 
 abbrev invariant-loop : tie.invariant-loop
-invariant-loop b k w v i₀ i = (i ≤ k) × (occurs v (termsAt w b 0 k) ≡ occurs v (termsAt w b i (k - i)))
+invariant-loop b k w v i₀ i = (i ≤ k) × (occurs v (terms_at w b 0 k) ≡ occurs v (terms_at w b i (k - i)))
 
 abbrev decreases-loop : tie.decreases-loop
 decreases-loop b k w v i₀ i = k - i
 
 loop-holds : tie.Need-loop-init invariant-loop decreases-loop
-loop-holds c = (omega arith, occurs-begin c.args.v c.requires)
+loop-holds c = (omega arith, occurs_begin c.args.v c.requires)
 
 mul-if1 : tie.Need-overflow-mul-if1 invariant-loop decreases-loop
 mul-if1 c =

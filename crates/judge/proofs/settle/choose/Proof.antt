@@ -1,7 +1,7 @@
 -- `judge::settle::choose` meets its contract. The search over the difference, and the front of the list. Assumes
 -- nothing.
 use borrow.Author.Rules.{rules}
-use Rattle.judge.proofs.Laws.Choosing.{search-asked, chosen-listed}
+use Rattle.judge.proofs.Laws.Choosing.{search_asked, chosen-listed}
 use Rattle.judge.proofs.settle.choose.Statement.{statement}
 use Rattle.judge.proofs.settle.choose.Tie as tie
 
@@ -23,7 +23,7 @@ part-search-end c = search rules
 search-requires : tie.Need-search-requires
 search-requires c κs =
     let s = c.before.before.before.before.before in
-    search-asked s.requires
+    search_asked s.requires
 
 same_length : tie.Need-same-length
 same_length c = search rules

@@ -1,7 +1,7 @@
 -- `judge::settle::subtract` meets its contract. One sum of the terms of the result and of all outputs. Assumes nothing.
 use mathlib.Core.Path.{refl}
 use borrow.Author.Rules.{rules}
-use Rattle.judge.proofs.Laws.Lasts.{origin-narrow-at, located-at, last-asked, last-formed}
+use Rattle.judge.proofs.Laws.Lasts.{origin-narrow-at, located_at, last-asked, last-formed}
 use Rattle.judge.proofs.settle.subtract.Statement.{statement}
 use Rattle.judge.proofs.settle.subtract.Tie as tie
 
@@ -28,7 +28,7 @@ form-difference-requires c κs =
     let masked-scope = c.before.before.before.before.masked-scope in
     let a = a' in
     last-asked p.ready p.standing
-    (located-at a.r a.d _ _ origin-scope.ensures place.ensures)
+    (located_at a.r a.d _ _ origin-scope.ensures place.ensures)
     p.lent p.fits masked-scope.ensures
 
 same_length : tie.Need-same-length
@@ -48,7 +48,7 @@ returns c =
     let form-difference = c.before.before.before.before.form-difference in
     let a = a' in
     last-formed p.ready p.standing
-    (located-at a.r a.d _ _ origin-scope.ensures place.ensures)
+    (located_at a.r a.d _ _ origin-scope.ensures place.ensures)
     p.lent p.fits masked-scope.ensures _ _ form-difference.ensures
 
 pub subtract-spec : {M : Type 1} → statement M

@@ -1,9 +1,9 @@
 -- What was found for the operands decides the faults and the statement. Assumes nothing.
 use Rattle.lines.specs.declared.known.Known.{Known}
 use Rattle.lines.specs.declared.step.Put.TheVariants.{Stated}
-use Rattle.lookup.specs.Names.{namesIn}
+use Rattle.lookup.specs.Names.{names_in}
 use Rattle.lines.specs.Taken.{step_of}
-use Rattle.lines.proofs.Laws.Taking.{no-faults}
+use Rattle.lines.proofs.Laws.Taking.{no_faults}
 use Rattle.lines.proofs.Laws.Stating.{form-bad, form-fault, form-grown, room}
 use mathlib.Core.Path.{ap, sym, ◌∙◌}
 use borrow.Author.Rules.{rules}
@@ -40,7 +40,7 @@ returns c = λ codes.
     let set = c.before.before.before.before.before.before.before.block-names in
     let form = c.before.before.before.before.before.before.find-form in
     form-fault s t d.args.here d.requires.sound d.args.x d.args.f form.result
-    (namesIn s t set.result) (ap (namesIn s t) set.ensures.1) form.ensures.told
+    (names_in s t set.result) (ap (names_in s t) set.ensures.1) form.ensures.told
     b5.if1.true b2.first-fault.ensures b4.is-given.ensures b3.is-crowded.ensures
     c.before.if2.true c.make.ensures
 
@@ -61,10 +61,10 @@ returns-2 c = λ codes.
     let t = d.args.t.now in
     let set = c.before.before.before.before.before.before.before.before.block-names in
     let form = c.before.before.before.before.before.before.before.find-form in
-    let free = no-faults _ _ _ _ _ b3.first-fault.ensures c.before.before.if2.false in
+    let free = no_faults _ _ _ _ _ b3.first-fault.ensures c.before.before.if2.false in
     let fit = room d.args.here.known _ (sym b4.is-crowded.ensures ∙ free.3) in
     form-grown s t d.args.here d.requires.sound d.args.x d.args.f form.result
-    (namesIn s t set.result) (ap (namesIn s t) set.ensures.1) form.ensures.told
+    (names_in s t set.result) (ap (names_in s t) set.ensures.1) form.ensures.told
     b6.if1.true b3.first-fault.ensures b5.is-given.ensures b4.is-crowded.ensures
     c.before.before.if2.false fit (d.requires.low free.0)
     (c.make2.ensures ∙ ap (λ (j : Known). step_of 0 j (Stated d.args.x (record {
@@ -83,7 +83,7 @@ returns-3 c = λ codes.
     let set = c.before.before.before.block-names in
     let form = c.before.before.find-form in
     form-bad s t d.args.here d.requires.sound d.args.x d.args.f form.result
-    (namesIn s t set.result) (ap (namesIn s t) set.ensures.1) form.ensures.told c.before.if1.false
+    (names_in s t set.result) (ap (names_in s t) set.ensures.1) form.ensures.told c.before.if1.false
     c.make3.ensures
 
 pub take-form-spec : {M : Type 1} → statement M

@@ -1,6 +1,6 @@
 -- Its name is read, or it is refusal 5. Assumes nothing.
-use Rattle.grammar.specs.Recorded.{recordIn}
-use Rattle.lines.proofs.Laws.Taking.{took-as, took-unread}
+use Rattle.grammar.specs.Recorded.{record_in}
+use Rattle.lines.proofs.Laws.Taking.{took_as, took_unread}
 use Rattle.grammar.specs.declared.record.Rec.TheVariants as rec
 use Rattle.grammar.specs.declared.line.NameRead.{NameRead}
 use mathlib.Core.Path.{refl, ap}
@@ -21,17 +21,17 @@ make-requires : tie.Need-make-requires
 make-requires c κs = search rules
 
 returns : tie.Need-returns
-unfolding recordIn
+unfolding record_in
 returns c = λ codes.
     let d = c.before.before.before.before.before in
-    took-as d.args.s.now d.args.t.now d.args.here
+    took_as d.args.s.now d.args.t.now d.args.here
     (ap (λ (y : NameRead). rec.Assign y d.args.f) c.before.before.x.given.1) (c.take-form.ensures codes)
 
 returns-2 : tie.Need-returns-2
-unfolding recordIn
+unfolding record_in
 returns-2 c = λ codes.
     let d = c.before.before.before.before in
-    took-unread d.args.s.now d.args.t.now d.args.here d.requires.sound (λ y. rec.Assign y d.args.f)
+    took_unread d.args.s.now d.args.t.now d.args.here d.requires.sound (λ y. rec.Assign y d.args.f)
     c.before.enum_told.given.1 refl c.make.ensures
 
 pub take-statement-spec : {M : Type 1} → statement M

@@ -3,16 +3,16 @@ use Rattle.grammar.specs.Record.{nests}
 use mathlib.Core.Option.{none, some}
 use borrow.Author.Tests.{ltb-false}
 use lib.Dec.{ltb}
-use Rattle.grammar.specs.Recorded.{columnsOf, mapIn}
-use Rattle.grammar.specs.Line.{piecesIn, nameIn}
+use Rattle.grammar.specs.Recorded.{columns_of, map_in}
+use Rattle.grammar.specs.Line.{pieces_in, name_in}
 use Rattle.grammar.specs.Record.{map}
-use Rattle.rules.specs.Faults.{repeats, readsUnknown, exceeds, miscounts}
+use Rattle.rules.specs.Faults.{repeats, reads_unknown, exceeds, miscounts}
 use Rattle.rules.specs.Added.{added}
-use Rattle.rules.specs.Limits.{mostMaps}
-use Rattle.lines.specs.Known.{kept, stateIn}
+use Rattle.rules.specs.Limits.{most_maps}
+use Rattle.lines.specs.Known.{kept, state_in}
 use Rattle.lines.proofs.Laws.Known.{steady}
 use Rattle.lines.proofs.Laws.Kept.{map-means}
-use Rattle.lines.proofs.Laws.Taking.{no-faults, maps-length, took-bad, took-fault, took-grown}
+use Rattle.lines.proofs.Laws.Taking.{no_faults, maps-length, took_bad, took_fault, took_grown}
 use native.Mathlib.Omega.{arith}
 use Prim.Native.Nat.{ℕ, ◌+◌, ◌<◌}
 use mathlib.Core.Path.{◌≡◌, refl, ap, sym, ◌∙◌}
@@ -36,22 +36,22 @@ make-requires : tie.Need-make-requires
 make-requires c κs = search rules
 
 returns : tie.Need-returns
-unfolding repeats readsUnknown exceeds miscounts stateIn nests
+unfolding repeats reads_unknown exceeds miscounts state_in nests
 returns c = λ codes.
     let d = c.before.before.before.before.before.before.before.before.before in
     let k = d.args.here.known in
     let s = d.args.s.now in
     let t = d.args.t.now in
-    let x = nameIn s d.args.x in
+    let x = name_in s d.args.x in
     let R = c.before.before.before.before.before.before.read-columns in
-    let here : some R.result.bytes ≡ columnsOf (piecesIn s d.args.here.line) =
+    let here : some R.result.bytes ≡ columns_of (pieces_in s d.args.here.line) =
     sym (simp c.before.before.before.before.before.if1.true) ∙ R.ensures in
-    took-fault s t d.args.here d.requires.sound (map x d.args.constant R.result.bytes)
-    (ap (mapIn x d.args.constant) here) c.before.before.first-fault.ensures c.before.if2.true
+    took_fault s t d.args.here d.requires.sound (map x d.args.constant R.result.bytes)
+    (ap (map_in x d.args.constant) here) c.before.before.first-fault.ensures c.before.if2.true
     (λ y z. record {
       repeats = c.before.before.before.before.is-given.ensures;
       unknown = refl;
-      exceeds = ap (λ (i : ℕ). ltb mostMaps (i + 1)) (sym (maps-length s (kept t k y) d.requires.sound z));
+      exceeds = ap (λ (i : ℕ). ltb most_maps (i + 1)) (sym (maps-length s (kept t k y) d.requires.sound z));
       miscounts = refl;
       shallow = refl;
     }) c.make.ensures
@@ -60,7 +60,7 @@ add-next : tie.Need-overflow-add-next
 add-next c = search rules
 
 returns-2 : tie.Need-returns-2
-unfolding repeats readsUnknown exceeds miscounts added stateIn nests
+unfolding repeats reads_unknown exceeds miscounts added state_in nests
 returns-2 c = λ codes.
     let b2 = c.before.before in
     let b3 = c.before.before.before in
@@ -69,20 +69,20 @@ returns-2 c = λ codes.
     let K = d.requires.sound in
     let s = d.args.s.now in
     let t = d.args.t.now in
-    let x = nameIn s d.args.x in
+    let x = name_in s d.args.x in
     let R = c.before.before.before.before.before.before.before.read-columns in
-    let here : some R.result.bytes ≡ columnsOf (piecesIn s d.args.here.line) =
+    let here : some R.result.bytes ≡ columns_of (pieces_in s d.args.here.line) =
     sym (simp c.before.before.before.before.before.before.if1.true) ∙ R.ensures in
-    let free = no-faults _ _ _ _ _ b3.first-fault.ensures b2.if2.false in
-    let few : k.mapped < mostMaps = omega (arith, ltb-false mostMaps (k.mapped + 1) free.3) in
-    took-grown s t d.args.here K (map x d.args.constant R.result.bytes)
-    (ap (mapIn x d.args.constant) here) _ (sym b2.if2.false ∙ b3.first-fault.ensures) refl
+    let free = no_faults _ _ _ _ _ b3.first-fault.ensures b2.if2.false in
+    let few : k.mapped < most_maps = omega (arith, ltb-false most_maps (k.mapped + 1) free.3) in
+    took_grown s t d.args.here K (map x d.args.constant R.result.bytes)
+    (ap (map_in x d.args.constant) here) _ (sym b2.if2.false ∙ b3.first-fault.ensures) refl
     (steady k K k.stage k.shares (k.mapped + 1) k.result k.outputs k.named K.shares
     (omega (arith, few)) K.named K.apart) few tt
     (λ y z. record {
       repeats = c.before.before.before.before.before.is-given.ensures;
       unknown = refl;
-      exceeds = ap (λ (i : ℕ). ltb mostMaps (i + 1)) (sym (maps-length s (kept t k y) K z));
+      exceeds = ap (λ (i : ℕ). ltb most_maps (i + 1)) (sym (maps-length s (kept t k y) K z));
       miscounts = refl;
       shallow = refl;
     })
@@ -96,9 +96,9 @@ returns-3 c = λ codes.
     let d = c.before.before.before.before.before in
     let s = d.args.s.now in
     let R = c.before.before.read-columns in
-    let here : none ≡ columnsOf (piecesIn s d.args.here.line) = sym (simp c.before.if1.false) ∙ R.ensures in
-    took-bad s d.args.t.now d.args.here d.requires.sound
-    (ap (mapIn (nameIn s d.args.x) d.args.constant) here) c.make2.ensures
+    let here : none ≡ columns_of (pieces_in s d.args.here.line) = sym (simp c.before.if1.false) ∙ R.ensures in
+    took_bad s d.args.t.now d.args.here d.requires.sound
+    (ap (map_in (name_in s d.args.x) d.args.constant) here) c.make2.ensures
 
 pub take-columns-spec : {M : Type 1} → statement M
 take-columns-spec =

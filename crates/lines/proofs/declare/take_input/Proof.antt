@@ -2,24 +2,24 @@
 use Rattle.grammar.specs.Record.{nests}
 use borrow.Author.Tests.{ltb-false}
 use lib.Dec.{ltb}
-use Rattle.grammar.specs.Line.{nameIn}
+use Rattle.grammar.specs.Line.{name_in}
 use Rattle.grammar.specs.Record.{input}
 use Rattle.grammar.specs.declared.record.Rec.TheVariants as rec
 use Rattle.grammar.specs.declared.line.NameRead.{NameRead}
-use Rattle.grammar.specs.Recorded.{recordIn}
+use Rattle.grammar.specs.Recorded.{record_in}
 use Rattle.lines.specs.declared.known.Known.{Known}
 use Rattle.lines.specs.declared.step.Put.TheVariants.{Input}
 use Rattle.lines.specs.declared.step.Step.{Step}
-use Rattle.rules.specs.Faults.{repeats, readsUnknown, exceeds, miscounts}
+use Rattle.rules.specs.Faults.{repeats, reads_unknown, exceeds, miscounts}
 use Rattle.rules.specs.Added.{added}
-use Rattle.rules.specs.Limits.{mostInputs, mostVariables}
-use Rattle.lines.specs.Known.{kept, stateIn}
-use Rattle.lines.specs.Added.{InputFits, inputAdded}
-use Rattle.lines.specs.Taken.{step_of, Took, recordAt}
-use Rattle.tokens.proofs.Laws.Flags.{or-false}
+use Rattle.rules.specs.Limits.{most_inputs, most_variables}
+use Rattle.lines.specs.Known.{kept, state_in}
+use Rattle.lines.specs.Added.{InputFits, input_added}
+use Rattle.lines.specs.Taken.{step_of, Took, record_at}
+use Rattle.tokens.proofs.Laws.Flags.{or_false}
 use Rattle.lines.proofs.Laws.Known.{input-sound}
 use Rattle.lines.proofs.Laws.Kept.{input-means}
-use Rattle.lines.proofs.Laws.Taking.{no-faults, took-fault, took-grown, took-unread}
+use Rattle.lines.proofs.Laws.Taking.{no_faults, took_fault, took_grown, took_unread}
 use native.Mathlib.Omega.{arith}
 use Prim.Native.Nat.{◌+◌}
 use mathlib.Core.Path.{refl, ap, sym, ◌∙◌, subst}
@@ -33,11 +33,11 @@ room : (c : tie.Else1) → let d = c.before.before.before.before.before.before.b
 room c =
     let d = c.before.before.before.before.before.before.before.before.before.before.before in
     let k = d.args.here.known in
-    let t = no-faults _ _ _ _ _ c.before.first-fault.ensures c.if1.false in
-    let u = or-false (ltb mostInputs (k.inputs + 1)) (ltb mostVariables (k.variables + k.shares))
+    let t = no_faults _ _ _ _ _ c.before.first-fault.ensures c.if1.false in
+    let u = or_false (ltb most_inputs (k.inputs + 1)) (ltb most_variables (k.variables + k.shares))
     (sym c.before.before.one_of.ensures ∙ t.3) in
-    let few = ltb-false mostInputs (k.inputs + 1) u.0 in
-    (omega (arith, few), ltb-false mostVariables (k.variables + k.shares) u.1)
+    let few = ltb-false most_inputs (k.inputs + 1) u.0 in
+    (omega (arith, few), ltb-false most_variables (k.variables + k.shares) u.1)
 
 enum-known-x : tie.Need-enum-known-x
 enum-known-x c = search rules
@@ -61,13 +61,13 @@ make-requires : tie.Need-make-requires
 make-requires c κs = search rules
 
 returns : tie.Need-returns
-unfolding recordIn repeats readsUnknown exceeds miscounts stateIn nests
+unfolding record_in repeats reads_unknown exceeds miscounts state_in nests
 returns c = λ codes.
     let d = c.before.before.before.before.before.before.before.before.before.before.before.before in
     let s = d.args.s.now in
     let x = c.before.before.before.before.before.before.before.before.x in
-    took-fault s d.args.t.now d.args.here d.requires.sound (input (nameIn s x.given.0.0))
-    (ap (λ (y : NameRead). recordAt s d.args.here (rec.Input y)) (sym x.given.1))
+    took_fault s d.args.t.now d.args.here d.requires.sound (input (name_in s x.given.0.0))
+    (ap (λ (y : NameRead). record_at s d.args.here (rec.Input y)) (sym x.given.1))
     c.before.before.first-fault.ensures c.before.if1.true
     (λ y z. record {
       repeats = c.before.before.before.before.before.before.is-given.ensures;
@@ -92,7 +92,7 @@ make-requires-3 : tie.Need-make-requires-3
 make-requires-3 c κs = search rules
 
 returns-2 : tie.Need-returns-2
-unfolding recordIn repeats readsUnknown exceeds miscounts added stateIn step_of nests
+unfolding record_in repeats reads_unknown exceeds miscounts added state_in step_of nests
 returns-2 c = λ codes.
     let b2 = c.before.before in
     let b3 = c.before.before.before in
@@ -104,11 +104,11 @@ returns-2 c = λ codes.
     let m = x.given.0.0 in
     let fit = room (b2) in
     let e = c.make2.ensures ∙ ap (λ (j : Known). step_of 0 j (Input m)) c.before.with-input.ensures in
-    let o = recordAt s d.args.here (rec.Input d.args.x) in
+    let o = record_at s d.args.here (rec.Input d.args.x) in
     subst (λ (r : Step). Took s t codes d.args.here o r) (sym e)
-    (took-grown s t d.args.here d.requires.sound (input (nameIn s m))
-    (ap (λ (y : NameRead). recordAt s d.args.here (rec.Input y)) (sym x.given.1))
-    (step_of 0 (inputAdded k) (Input m)) (sym b2.if1.false ∙ b3.first-fault.ensures) refl
+    (took_grown s t d.args.here d.requires.sound (input (name_in s m))
+    (ap (λ (y : NameRead). record_at s d.args.here (rec.Input y)) (sym x.given.1))
+    (step_of 0 (input_added k) (Input m)) (sym b2.if1.false ∙ b3.first-fault.ensures) refl
     (input-sound k d.requires.sound fit) fit tt
     (λ y z. record {
       repeats = c.before.before.before.before.before.before.before.is-given.ensures;
@@ -120,10 +120,10 @@ returns-2 c = λ codes.
     (λ y z. input-means s (kept t k y) d.requires.sound z m fit))
 
 returns-3 : tie.Need-returns-3
-unfolding recordIn
+unfolding record_in
 returns-3 c = λ codes.
     let d = c.before.before.before.before.before in
-    took-unread d.args.s.now d.args.t.now d.args.here d.requires.sound rec.Input
+    took_unread d.args.s.now d.args.t.now d.args.here d.requires.sound rec.Input
     c.before.enum_told.given.1 refl c.make3.ensures
 
 pub take-input-spec : {M : Type 1} → statement M

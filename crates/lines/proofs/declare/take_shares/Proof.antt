@@ -3,14 +3,14 @@ use Rattle.grammar.specs.Record.{nests}
 use Rattle.grammar.specs.declared.record.Rec.TheVariants as rec
 use Rattle.tokens.specs.declared.token.Number.{Number}
 use Rattle.grammar.specs.Record.{shares}
-use Rattle.grammar.specs.Recorded.{recordIn}
-use Rattle.rules.specs.Faults.{repeats, readsUnknown, exceeds, miscounts}
+use Rattle.grammar.specs.Recorded.{record_in}
+use Rattle.rules.specs.Faults.{repeats, reads_unknown, exceeds, miscounts}
 use Rattle.rules.specs.Added.{added}
-use Rattle.rules.specs.Grown.{withShares}
-use Rattle.lines.specs.Known.{stateIn}
-use Rattle.lines.specs.Taken.{recordAt}
+use Rattle.rules.specs.Grown.{with_shares}
+use Rattle.lines.specs.Known.{state_in}
+use Rattle.lines.specs.Taken.{record_at}
 use Rattle.lines.proofs.Laws.Known.{steady}
-use Rattle.lines.proofs.Laws.Taking.{took-set, took-unread}
+use Rattle.lines.proofs.Laws.Taking.{took_set, took_unread}
 use Prim.Native.Nat.{◌≤◌}
 use mathlib.Core.Path.{refl, ap, sym}
 use borrow.Author.Rules.{rules}
@@ -36,25 +36,25 @@ make-requires-2 : tie.Need-make-requires-2
 make-requires-2 c κs = search rules
 
 returns : tie.Need-returns
-unfolding recordIn repeats readsUnknown exceeds miscounts added withShares stateIn nests
+unfolding record_in repeats reads_unknown exceeds miscounts added with_shares state_in nests
 returns c = λ s t codes.
     let d = c.before.before.before.before.before.before in
     let k = d.args.here.known in
     let K = d.requires in
     let v = c.before.before.before.count.given.0.0 in
     let few : v ≤ 255 = search rules in
-    took-set s t d.args.here K (shares v)
-    (ap (λ (x : Number). recordAt s d.args.here (rec.Shares x)) (sym c.before.before.before.count.given.1))
+    took_set s t d.args.here K (shares v)
+    (ap (λ (x : Number). record_at s d.args.here (rec.Shares x)) (sym c.before.before.before.count.given.1))
     c.before.first-fault.ensures _ refl
     (steady k K k.stage v k.mapped k.result k.outputs k.named few K.mapped K.named K.apart)
     (λ x z. record { repeats = refl; unknown = refl; exceeds = refl; miscounts = refl; shallow = refl })
     (λ x. refl) c.make.ensures
 
 returns-2 : tie.Need-returns-2
-unfolding recordIn
+unfolding record_in
 returns-2 c = λ s t codes.
     let d = c.before.before.before.before in
-    took-unread s t d.args.here d.requires rec.Shares
+    took_unread s t d.args.here d.requires rec.Shares
     c.before.enum_told.given.1 refl c.make2.ensures
 
 pub take-shares-spec : {M : Type 1} → statement M

@@ -1,6 +1,6 @@
 -- Its name is read, or it is refusal 5. Assumes nothing.
-use Rattle.grammar.specs.Recorded.{recordIn}
-use Rattle.lines.proofs.Laws.Taking.{took-as, took-unread}
+use Rattle.grammar.specs.Recorded.{record_in}
+use Rattle.lines.proofs.Laws.Taking.{took_as, took_unread}
 use Rattle.grammar.specs.declared.record.Rec.TheVariants as rec
 use Rattle.grammar.specs.declared.line.NameRead.{NameRead}
 use mathlib.Core.Path.{refl, ap}
@@ -21,20 +21,20 @@ make-requires : tie.Need-make-requires
 make-requires c κs = search rules
 
 returns : tie.Need-returns
-unfolding recordIn
+unfolding record_in
 returns c =
     let d = c.before.before.before.before.before.before in
     let F = c.take-formula in (
-      took-as d.args.s.now d.args.t.now d.args.here
+      took_as d.args.s.now d.args.t.now d.args.here
           (ap (λ (y : NameRead). rec.Let y) c.before.before.before.x.given.1) F.ensures.0,
       F.ensures.1,
     )
 
 returns-2 : tie.Need-returns-2
-unfolding recordIn
+unfolding record_in
 returns-2 c =
     let d = c.before.before.before.before in (
-      took-unread d.args.s.now d.args.t.now d.args.here d.requires.sound rec.Let
+      took_unread d.args.s.now d.args.t.now d.args.here d.requires.sound rec.Let
           c.before.enum_told.given.1 refl c.make.ensures,
       refl,
     )

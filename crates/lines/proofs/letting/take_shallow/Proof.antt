@@ -2,19 +2,19 @@
 use native.Mathlib.Omega.{arith}
 use mathlib.Core.Path.{refl, ap, ◌∙◌}
 use borrow.Author.Rules.{rules}
-use Rattle.grammar.specs.Line.{nameIn}
+use Rattle.grammar.specs.Line.{name_in}
 use Rattle.lines.specs.declared.known.Known.{Known}
 use Rattle.lookup.specs.declared.names.Names.{Names}
 use Rattle.lines.specs.declared.step.Put.TheVariants.{Let}
-use Rattle.lookup.specs.Names.{namesIn}
+use Rattle.lookup.specs.Names.{names_in}
 use Rattle.rules.specs.Scope.{given}
-use Rattle.grammar.specs.Formula.{readFormula}
+use Rattle.grammar.specs.Formula.{read_formula}
 use Rattle.lines.specs.Lets.{field_of}
-use Rattle.lines.specs.Known.{blockNames, mapNames}
+use Rattle.lines.specs.Known.{block_names, map_names}
 use Rattle.lines.specs.Taken.{step_of}
-use Rattle.lines.proofs.Laws.Taking.{no-faults}
+use Rattle.lines.proofs.Laws.Taking.{no_faults}
 use Rattle.lines.proofs.Laws.LetWriting.{shallow_fits, shallow-count, written-size}
-use Rattle.lines.proofs.Laws.LetTaking.{let-fault, let-fits, let-grown}
+use Rattle.lines.proofs.Laws.LetTaking.{let_fault, let_fits, let_grown}
 use Rattle.lines.proofs.letting.take_shallow.Statement.{statement}
 use Rattle.lines.proofs.letting.take_shallow.Tie as tie
 
@@ -52,13 +52,13 @@ returns c =
     let t = d.args.t.now in
     let set = c.before.before.before.before.before.before.block-names in
     let W = c.before.before.before.before.before.before.before.write-let in (
-      let-fault s t d.args.here d.requires.2.sound d.args.x d.args.f d.requires.0 d.requires.1 W.result _ _
+      let_fault s t d.args.here d.requires.2.sound d.args.x d.args.f d.requires.0 d.requires.1 W.result _ _
           W.ensures c.before.before.first-fault.ensures
           (c.before.before.before.before.before.is-given.ensures
-          ∙ ap (λ (n : Names). given (nameIn s d.args.x) (namesIn s t n)) set.ensures.1) refl
+          ∙ ap (λ (n : Names). given (name_in s d.args.x) (names_in s t n)) set.ensures.1) refl
           c.before.if1.true c.make.ensures,
-      written-size (namesIn s t (blockNames k)) (namesIn s t (mapNames k)) d.args.codes.now _ W.result
-          (readFormula (field_of s d.args.f)) (shallow_fits s d.args.f d.requires.0) W.ensures,
+      written-size (names_in s t (block_names k)) (names_in s t (map_names k)) d.args.codes.now _ W.result
+          (read_formula (field_of s d.args.f)) (shallow_fits s d.args.f d.requires.0) W.ensures,
     )
 
 with-statements-requires : tie.Need-with-statements-requires
@@ -68,10 +68,10 @@ with-statements-requires c κs =
     let t = d.args.t.now in
     let set = c.before.before.before.before.before.block-names in
     let W = c.before.before.before.before.before.before.write-let in
-    let F = let-fits s t d.args.here d.requires.2.sound d.args.x d.args.f d.requires.0 d.requires.1
+    let F = let_fits s t d.args.here d.requires.2.sound d.args.x d.args.f d.requires.0 d.requires.1
     W.result _ _ W.ensures c.before.first-fault.ensures
     (c.before.before.before.before.is-given.ensures
-    ∙ ap (λ (n : Names). given (nameIn s d.args.x) (namesIn s t n)) set.ensures.1) refl c.if1.false in
+    ∙ ap (λ (n : Names). given (name_in s d.args.x) (names_in s t n)) set.ensures.1) refl c.if1.false in
     (d.requires.2.sound, omega arith, omega (arith, F.1))
 
 make-requires-2 : tie.Need-make-requires-2
@@ -87,17 +87,17 @@ returns-2 c =
     let W = c.before.before.before.before.before.before.before.before.write-let in
     let z = c.before.before.if1.false in
     let e = c.before.before.before.first-fault.ensures in
-    let free = no-faults _ _ _ _ _ e z in (
-      let-grown s t d.args.here d.requires.2.sound d.args.x d.args.f d.requires.0 d.requires.1 W.result _ _
+    let free = no_faults _ _ _ _ _ e z in (
+      let_grown s t d.args.here d.requires.2.sound d.args.x d.args.f d.requires.0 d.requires.1 W.result _ _
           W.ensures e
           (c.before.before.before.before.before.before.is-given.ensures
-          ∙ ap (λ (n : Names). given (nameIn s d.args.x) (namesIn s t n)) set.ensures.1) refl
+          ∙ ap (λ (n : Names). given (name_in s d.args.x) (names_in s t n)) set.ensures.1) refl
           z
           (d.requires.2.low free.0)
           (c.make2.ensures
           ∙ ap (λ (j : Known). step_of 0 j (Let d.args.x d.args.f)) c.before.with-statements.ensures),
-      written-size (namesIn s t (blockNames k)) (namesIn s t (mapNames k)) d.args.codes.now _ W.result
-          (readFormula (field_of s d.args.f)) (shallow_fits s d.args.f d.requires.0) W.ensures,
+      written-size (names_in s t (block_names k)) (names_in s t (map_names k)) d.args.codes.now _ W.result
+          (read_formula (field_of s d.args.f)) (shallow_fits s d.args.f d.requires.0) W.ensures,
     )
 
 pub take-shallow-spec : {M : Type 1} → statement M

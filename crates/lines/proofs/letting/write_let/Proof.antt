@@ -2,7 +2,7 @@
 use native.Mathlib.Omega.{arith}
 use mathlib.Core.Path.{refl}
 use borrow.Author.Rules.{rules}
-use Rattle.lines.proofs.Laws.LetWriting.{let-looks, let-room, let-alone, let-several}
+use Rattle.lines.proofs.Laws.LetWriting.{let_looks, let_room, let_alone_lem, let_several}
 use Rattle.lines.proofs.letting.write_let.Statement.{statement}
 use Rattle.lines.proofs.letting.write_let.Tie as tie
 
@@ -18,10 +18,10 @@ compile-requires c κs =
     let s = d.args.s.now in
     let n = c.before.before.block-names in
     let p = c.before.part in (
-      let-looks s d.args.t.now d.args.k d.args.f n.result n.ensures.1 _ p.ensures d.requires.0
+      let_looks s d.args.t.now d.args.k d.args.f n.result n.ensures.1 _ p.ensures d.requires.0
           n.ensures.0 d.requires.1,
       omega arith,
-      let-room s d.args.t.now d.args.k d.args.f n.result n.ensures.1 _ p.ensures d.requires.2,
+      let_room s d.args.t.now d.args.k d.args.f n.result n.ensures.1 _ p.ensures d.requires.2,
     )
 
 put-op-requires : tie.Need-put-op-requires
@@ -32,7 +32,7 @@ returns c =
     let d = c.before.before.before.before.before.before.before.before.before in
     let n = c.before.before.before.before.before.before.before.block-names in
     let r = c.before.before.before.before.compile in
-    let-alone d.args.s.now d.args.t.now d.args.k d.args.f n.result n.ensures.1 _
+    let_alone_lem d.args.s.now d.args.t.now d.args.k d.args.f n.result n.ensures.1 _
     c.before.before.before.before.before.before.part.ensures d.args.out.now _ _ r.result r.ensures
     c.before.before.if1.true c.put-op.ensures
 
@@ -41,7 +41,7 @@ returns-2 c =
     let d = c.before.before.before.before.before.before.before in
     let n = c.before.before.before.before.before.block-names in
     let r = c.before.before.compile in
-    let-several d.args.s.now d.args.t.now d.args.k d.args.f n.result n.ensures.1 _
+    let_several d.args.s.now d.args.t.now d.args.k d.args.f n.result n.ensures.1 _
     c.before.before.before.before.part.ensures d.args.out.now _ _ r.result r.ensures
     c.if1.false refl
 

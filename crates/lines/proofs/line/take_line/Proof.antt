@@ -1,13 +1,13 @@
 -- The bytes of the line, its word, its record. Assumes nothing.
 use mathlib.Core.Bool.{true, false}
 use Rattle.tokens.specs.Ascii.{all, allowed}
-use Rattle.grammar.specs.Line.{piecesIn}
-use Rattle.tokens.specs.Word.{wordOf}
+use Rattle.grammar.specs.Line.{pieces_in}
+use Rattle.tokens.specs.Word.{word_of}
 use Rattle.lines.specs.declared.step.Step.{Step}
-use Rattle.lines.specs.Known.{kept, stateIn}
+use Rattle.lines.specs.Known.{kept, state_in}
 use Rattle.rules.specs.Read.{unless}
-use Rattle.lines.specs.Taken.{step_of, outcomeIn, LineLeads}
-use Rattle.lines.proofs.Laws.Leading.{line-bad, line-record}
+use Rattle.lines.specs.Taken.{step_of, outcome_in, LineLeads}
+use Rattle.lines.proofs.Laws.Leading.{line-bad, line_record}
 use mathlib.Core.Path.{◌≡◌, refl, ap, sym, ◌∙◌, subst}
 use lib.ListN.{take, drop}
 use borrow.Author.Rules.{rules}
@@ -33,7 +33,7 @@ take-record-requires : tie.Need-take-record-requires
 take-record-requires c κs = search rules
 
 returns : tie.Need-returns
-unfolding piecesIn
+unfolding pieces_in
 returns c =
     let b2 = c.before.before.before in
     let b3 = c.before.before.before.before in
@@ -44,10 +44,10 @@ returns c =
     let l = take d.args.l.len (drop d.args.l.from s) in
     let clean : all allowed l ≡ true = sym (c.before.before.before.before.before.before.all-allowed.ensures
     ∙ ap (all allowed) b6.part.ensures) ∙ b4.if1.true in
-    let told = c.before.before.word_of.ensures ∙ ap wordOf (b2.part2.ensures ∙ b3.field.ensures.holds) in (
+    let told = c.before.before.word_of.ensures ∙ ap word_of (b2.part2.ensures ∙ b3.field.ensures.holds) in (
       record {
         outcome = λ a z. c.take-record.ensures.0.outcome a z
-            ∙ line-record (stateIn s (kept d.args.t.now d.args.k a)) d.args.n l clean
+            ∙ line_record (state_in s (kept d.args.t.now d.args.k a)) d.args.n l clean
             c.before.before.word_of.result told;
         sound = c.take-record.ensures.0.sound;
         fits = c.take-record.ensures.0.fits;
@@ -60,7 +60,7 @@ make-requires : tie.Need-make-requires
 make-requires c κs = search rules
 
 returns-2 : tie.Need-returns-2
-unfolding outcomeIn step_of unless
+unfolding outcome_in step_of unless
 returns-2 c =
     let d = c.before.before.before.before.before in
     let s = d.args.s.now in
@@ -71,7 +71,7 @@ returns-2 c =
     ∙ ap (all allowed) c.before.before.before.part.ensures) ∙ c.before.if1.false in (
       subst (λ (r : Step). LineLeads s t d.args.codes.now k d.args.l d.args.n r) (sym c.make.ensures)
           (record {
-            outcome = λ a z. line-bad (stateIn s (kept t k a)) d.args.n l foul;
+            outcome = λ a z. line-bad (state_in s (kept t k a)) d.args.n l foul;
             sound = d.requires.1;
             fits = tt;
             lets = tt;

@@ -1,15 +1,15 @@
 -- The record before its stage, then the stage. Assumes nothing.
-use Rattle.grammar.specs.Line.{piecesIn}
-use Rattle.grammar.specs.Record.{recordFor}
-use Rattle.rules.specs.Grown.{atStage}
-use Rattle.lines.specs.Known.{kept, stateIn}
+use Rattle.grammar.specs.Line.{pieces_in}
+use Rattle.grammar.specs.Record.{record_for}
+use Rattle.rules.specs.Grown.{at_stage}
+use Rattle.lines.specs.Known.{kept, state_in}
 use Rattle.lines.specs.Stored.{after}
-use Rattle.rules.specs.Order.{mayStand, stageAfter, inMasked}
+use Rattle.rules.specs.Order.{may_stand, stage_after, in_masked}
 use Rattle.rules.specs.Read.{unless}
-use Rattle.lines.specs.Taken.{takes, outcomeIn}
+use Rattle.lines.specs.Taken.{takes, outcome_in}
 use Rattle.lines.proofs.Laws.Known.{steady}
-use Rattle.lines.proofs.Laws.Stages.{stands-le, after-lt}
-use Rattle.lines.proofs.Laws.Leading.{record-stops, record-goes}
+use Rattle.lines.proofs.Laws.Stages.{stands_le, after_lt}
+use Rattle.lines.proofs.Laws.Leading.{record_stops, record_goes}
 use native.Mathlib.Omega.{arith}
 use Prim.Native.Nat.{ℕ, ◌<◌}
 use mathlib.Core.Path.{◌≡◌, ap, sym, ◌∙◌}
@@ -29,11 +29,11 @@ take-any-requires c κs =
     record {
       inside = d.requires.0;
       sound = d.requires.1;
-      low = λ t. stands-le d.args.w d.args.k.stage (sym c.before.may-stand.ensures ∙ t);
+      low = λ t. stands_le d.args.w d.args.k.stage (sym c.before.may-stand.ensures ∙ t);
     }
 
 returns : tie.Need-returns
-unfolding outcomeIn stateIn
+unfolding outcome_in state_in
 returns c =
     let b4 = c.before.before.before.before in
     let b5 = c.before.before.before.before.before in
@@ -41,15 +41,15 @@ returns c =
     let s = d.args.s.now in
     let t = d.args.t.now in
     let T = c.before.before.take-any in
-    let o = recordFor d.args.w (piecesIn s d.args.l) in (
+    let o = record_for d.args.w (pieces_in s d.args.l) in (
       record {
         outcome = λ a z.
             let h = kept t d.args.k a in
-            record-stops (stateIn s h) d.args.n d.args.w o T.result.refusal
-            (stateIn s (after s h T.result))
+            record_stops (state_in s h) d.args.n d.args.w o T.result.refusal
+            (state_in s (after s h T.result))
             c.if1.true
             (T.ensures.0.outcome a z
-            ∙ (λ i. takes (stateIn s h) d.args.n (b4.may-stand.ensures i) (b5.«record».ensures i)));
+            ∙ (λ i. takes (state_in s h) d.args.n (b4.may-stand.ensures i) (b5.«record».ensures i)));
         sound = T.ensures.0.sound;
         fits = T.ensures.0.fits;
         lets = T.ensures.0.lets;
@@ -61,7 +61,7 @@ stage-after-requires : tie.Need-stage-after-requires
 stage-after-requires c κs = search rules
 
 returns-2 : tie.Need-returns-2
-unfolding outcomeIn stateIn after atStage
+unfolding outcome_in state_in after at_stage
 returns-2 c =
     let b2 = c.before.before in
     let b6 = c.before.before.before.before.before.before in
@@ -72,20 +72,20 @@ returns-2 c =
     let w = d.args.w in
     let T = c.before.before.before.before.take-any in
     let j = T.result.known in
-    let o = recordFor w (piecesIn s d.args.l) in
+    let o = record_for w (pieces_in s d.args.l) in
     let stands = sym b6.may-stand.ensures ∙ T.ensures.0.stood b2.if1.false in
     let g = c.before.stage-after in
-    let lower : stageAfter w j.stage < inMasked → j.stage < inMasked =
-    after-lt w j.stage (ap (mayStand w) T.ensures.0.stage ∙ stands) in
-    let same : g.result ≡ stageAfter w j.stage = g.ensures ∙ ap (stageAfter w) (sym T.ensures.0.stage) in (
+    let lower : stage_after w j.stage < in_masked → j.stage < in_masked =
+    after_lt w j.stage (ap (may_stand w) T.ensures.0.stage ∙ stands) in
+    let same : g.result ≡ stage_after w j.stage = g.ensures ∙ ap (stage_after w) (sym T.ensures.0.stage) in (
       record {
         outcome = λ a z.
             let h = kept t d.args.k a in
-            let q = ap (λ (f : ℕ). unless f (stateIn s (after s h T.result))) (sym b2.if1.false)
+            let q = ap (λ (f : ℕ). unless f (state_in s (after s h T.result))) (sym b2.if1.false)
             ∙ T.ensures.0.outcome a z
-            ∙ (λ i. takes (stateIn s h) d.args.n (b6.may-stand.ensures i) (b7.«record».ensures i)) in
-            (λ i. unless (b2.if1.false i) (atStage (g.ensures i) (stateIn s (after s h T.result))))
-            ∙ (record-goes (stateIn s h) d.args.n w o (stateIn s (after s h T.result)) q).1;
+            ∙ (λ i. takes (state_in s h) d.args.n (b6.may-stand.ensures i) (b7.«record».ensures i)) in
+            (λ i. unless (b2.if1.false i) (at_stage (g.ensures i) (state_in s (after s h T.result))))
+            ∙ (record_goes (state_in s h) d.args.n w o (state_in s (after s h T.result)) q).1;
         sound =
             steady j T.ensures.0.sound g.result j.shares j.mapped j.result j.outputs j.named
             T.ensures.0.sound.shares T.ensures.0.sound.mapped T.ensures.0.sound.named

@@ -1,14 +1,14 @@
--- In each arm the word is known, and with it the case of `mayStand`. Assumes nothing.
+-- In each arm the word is known, and with it the case of `may_stand`. Assumes nothing.
 use Prim.Native.Nat.{ℕ}
 use Rattle.lines.proofs.order.may_stand.Statement.{statement}
 use Rattle.lines.proofs.order.may_stand.Tie as tie
-use Rattle.rules.specs.Order.{mayStand}
+use Rattle.rules.specs.Order.{may_stand}
 use Rattle.tokens.specs.declared.word.Word.{Word}
 use borrow.Author.Rules.{rules}
 use mathlib.Core.Path.{◌≡◌, sym, ap, ◌∙◌}
 
-by : (stage : ℕ) {w v : Word} → w ≡ v → mayStand v stage ≡ mayStand w stage
-by stage e = ap (λ (x : Word). mayStand x stage) (sym e)
+by : (stage : ℕ) {w v : Word} → w ≡ v → may_stand v stage ≡ may_stand w stage
+by stage e = ap (λ (x : Word). may_stand x stage) (sym e)
 
 enum_told : tie.Need-enum-told
 enum_told c = search rules

@@ -1,9 +1,9 @@
 -- In each arm the record is known. Assumes nothing.
-use Rattle.grammar.specs.Recorded.{recordIn}
+use Rattle.grammar.specs.Recorded.{record_in}
 use Rattle.grammar.specs.declared.record.Rec.{Rec}
 use Rattle.lines.specs.declared.step.Step.{Step}
-use Rattle.lines.specs.Taken.{Took, TookAny, recordAt}
-use Rattle.lines.proofs.Laws.Taking.{took-as, took-bad}
+use Rattle.lines.specs.Taken.{Took, TookAny, record_at}
+use Rattle.lines.proofs.Laws.Taking.{took_as, took_bad}
 use lib.ListN.{length}
 use mathlib.Core.Path.{◌≡◌, refl, ap, sym}
 use borrow.Author.Rules.{rules}
@@ -12,10 +12,10 @@ use Rattle.lines.proofs.take.take_any.Tie as tie
 
 -- the record of an arm is known, and the numbers of a `let` stay
 arm : (d : tie.Start) {q : Rec} {x : Step} → let a = d.args in
-    a.r ≡ q → TookAny a.s.now a.t.now a.here (recordAt a.s.now a.here q) x
-    → Took a.s.now a.t.now a.codes.now a.here (recordAt a.s.now a.here a.r) x
+    a.r ≡ q → TookAny a.s.now a.t.now a.here (record_at a.s.now a.here q) x
+    → Took a.s.now a.t.now a.codes.now a.here (record_at a.s.now a.here a.r) x
     × (length a.codes.now ≡ length a.codes.now)
-arm d e T = (took-as d.args.s.now d.args.t.now d.args.here e (T _), refl)
+arm d e T = (took_as d.args.s.now d.args.t.now d.args.here e (T _), refl)
 
 enum_told : tie.Need-enum-told
 enum_told c = search rules
@@ -78,11 +78,11 @@ take-output-requires : tie.Need-take-output-requires
 take-output-requires c κs = search rules
 
 returns : tie.Need-returns
-unfolding recordIn
+unfolding record_in
 returns c =
     let d = c.before.before.before.before in (
-      took-bad d.args.s.now d.args.t.now d.args.here d.requires.sound
-          (ap (recordAt d.args.s.now d.args.here) (sym c.before.enum_told.given.1)) c.make.ensures,
+      took_bad d.args.s.now d.args.t.now d.args.here d.requires.sound
+          (ap (record_at d.args.s.now d.args.here) (sym c.before.enum_told.given.1)) c.make.ensures,
       refl,
     )
 
@@ -107,7 +107,7 @@ returns-7 : tie.Need-returns-7
 returns-7 c =
     let a = c.before.before.before.before.before.before.args in
     let T = c.take-let.ensures in
-    (took-as a.s.now a.t.now a.here c.before.before.before.r5.given.1 T.0, T.1)
+    (took_as a.s.now a.t.now a.here c.before.before.before.r5.given.1 T.0, T.1)
 
 returns-8 : tie.Need-returns-8
 returns-8 c =

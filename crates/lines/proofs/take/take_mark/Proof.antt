@@ -1,10 +1,10 @@
 -- No test but the order, and nothing is added. Assumes nothing.
 use Rattle.grammar.specs.Record.{nests}
 use Rattle.grammar.specs.Record.{origin, masked}
-use Rattle.grammar.specs.Recorded.{recordIn}
-use Rattle.rules.specs.Faults.{repeats, readsUnknown, exceeds, miscounts}
+use Rattle.grammar.specs.Recorded.{record_in}
+use Rattle.rules.specs.Faults.{repeats, reads_unknown, exceeds, miscounts}
 use Rattle.rules.specs.Added.{added}
-use Rattle.lines.proofs.Laws.Taking.{took-set}
+use Rattle.lines.proofs.Laws.Taking.{took_set}
 use mathlib.Core.Path.{refl}
 use borrow.Author.Rules.{rules}
 use Rattle.lines.proofs.take.take_mark.Statement.{statement}
@@ -17,18 +17,18 @@ make-requires : tie.Need-make-requires
 make-requires c κs = search rules
 
 returns : tie.Need-returns
-unfolding recordIn repeats readsUnknown exceeds miscounts added nests
+unfolding record_in repeats reads_unknown exceeds miscounts added nests
 returns c = λ s t.
     let here = c.before.before.args.here in
     let K = c.before.before.requires in
     let q = c.before.first-fault.ensures in (
       λ codes.
-          took-set s t here K origin refl q here.known refl K
+          took_set s t here K origin refl q here.known refl K
           (λ x z. record { repeats = refl; unknown = refl; exceeds = refl; miscounts = refl; shallow = refl })
           (λ x. refl)
           c.make.ensures,
       λ codes.
-          took-set s t here K masked refl q here.known refl K
+          took_set s t here K masked refl q here.known refl K
           (λ x z. record { repeats = refl; unknown = refl; exceeds = refl; miscounts = refl; shallow = refl })
           (λ x. refl)
           c.make.ensures,

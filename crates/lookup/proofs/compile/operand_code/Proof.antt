@@ -1,5 +1,5 @@
 -- A place is itself, a byte stands behind the places. Assumes nothing.
-use Rattle.lookup.specs.Coded.{operandCode}
+use Rattle.lookup.specs.Coded.{operand_code}
 use mathlib.Core.Path.{ap, sym}
 use borrow.Author.Rules.{rules}
 use Rattle.lookup.proofs.compile.operand_code.Statement.{statement}
@@ -18,12 +18,12 @@ add-result : tie.Need-overflow-add-result
 add-result c = search rules
 
 returns : tie.Need-returns
-unfolding operandCode
-returns c = ap operandCode (sym c.before.a.given.1)
+unfolding operand_code
+returns c = ap operand_code (sym c.before.a.given.1)
 
 returns-2 : tie.Need-returns-2
-unfolding operandCode
-returns-2 c = ap operandCode (sym c.before.a2.given.1)
+unfolding operand_code
+returns-2 c = ap operand_code (sym c.before.a2.given.1)
 
 pub operand-code-spec : {M : Type 1} → statement M
 operand-code-spec =

@@ -1,5 +1,5 @@
 -- Three numbers are set. Assumes nothing.
-use Rattle.lookup.specs.Coded.{putCodes}
+use Rattle.lookup.specs.Coded.{put_codes}
 use mathlib.Core.Path.{refl}
 use borrow.Author.Rules.{rules}
 use Rattle.lookup.proofs.compile.put_codes.Statement.{statement}
@@ -33,7 +33,7 @@ element-write-out-3 : tie.Need-element-write-out-3
 element-write-out-3 c = search rules
 
 returns : tie.Need-returns
-unfolding putCodes
+unfolding put_codes
 returns c = refl
 
 pub put-codes-spec : {M : Type 1} → statement M

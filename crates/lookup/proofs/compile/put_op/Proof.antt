@@ -1,5 +1,5 @@
 -- Each operation has its three numbers. Assumes nothing.
-use Rattle.lookup.specs.Coded.{kindCode, leftCode, right_code, putCodes, putOp}
+use Rattle.lookup.specs.Coded.{kind_code, left_code, right_code, put_codes, put_op}
 use Rattle.rules.specs.declared.types.Op.{Op}
 use Prim.Native.Nat.{ℕ}
 use mathlib.Core.List.{List}
@@ -10,12 +10,12 @@ use Rattle.lookup.proofs.compile.put_op.Tie as tie
 
 -- the numbers of the operation are stored
 stored : (d : tie.Start) {o : Op} {left right : ℕ} {exit : List ℕ} → let a = d.args in
-    a.o ≡ o → exit ≡ putCodes a.out.now a.k (kindCode o) left right → left ≡ leftCode o → right ≡ right_code o
-    → exit ≡ putOp a.out.now a.k a.o
-unfolding putOp
+    a.o ≡ o → exit ≡ put_codes a.out.now a.k (kind_code o) left right → left ≡ left_code o → right ≡ right_code o
+    → exit ≡ put_op a.out.now a.k a.o
+unfolding put_op
 stored d {o = o} e q l r =
     let a = d.args in
-    q ∙ (λ i. putCodes a.out.now a.k (kindCode o) (l i) (r i)) ∙ ap (putOp a.out.now a.k) (sym e)
+    q ∙ (λ i. put_codes a.out.now a.k (kind_code o) (l i) (r i)) ∙ ap (put_op a.out.now a.k) (sym e)
 
 enum-known-o : tie.Need-enum-known-o
 enum-known-o c = search rules
@@ -66,33 +66,33 @@ put-codes-requires-5 : tie.Need-put-codes-requires-5
 put-codes-requires-5 c κs = search rules
 
 returns : tie.Need-returns
-unfolding kindCode leftCode right_code
+unfolding kind_code left_code right_code
 returns c =
     stored c.before.before.before.before.before.before c.before.before.before.before.o.given.1
     c.put-codes.ensures c.before.operand-code.ensures refl
 
 returns-2 : tie.Need-returns-2
-unfolding kindCode leftCode right_code
+unfolding kind_code left_code right_code
 returns-2 c =
     let b = c.before.before in
     stored b.before.before.before.before.before b.before.before.before.o2.given.1
     c.put-codes2.ensures b.operand-code2.ensures c.before.operand-code3.ensures
 
 returns-3 : tie.Need-returns-3
-unfolding kindCode leftCode right_code
+unfolding kind_code left_code right_code
 returns-3 c =
     let b = c.before.before in
     stored b.before.before.before.before.before b.before.before.before.o3.given.1
     c.put-codes3.ensures b.operand-code4.ensures c.before.operand-code5.ensures
 
 returns-4 : tie.Need-returns-4
-unfolding kindCode leftCode right_code
+unfolding kind_code left_code right_code
 returns-4 c =
     stored c.before.before.before.before.before.before c.before.before.before.before.o4.given.1
     c.put-codes4.ensures refl c.before.operand-code6.ensures
 
 returns-5 : tie.Need-returns-5
-unfolding kindCode leftCode right_code
+unfolding kind_code left_code right_code
 returns-5 c =
     stored c.before.before.before.before.before c.before.before.before.o5.given.1
     c.put-codes5.ensures refl refl

@@ -1,5 +1,5 @@
 -- The three numbers of the entry. Assumes nothing.
-use Rattle.lookup.specs.Coded.{opAt}
+use Rattle.lookup.specs.Coded.{op_at}
 use borrow.Author.Rules.{rules}
 use Rattle.lookup.proofs.decode.statement_at.Statement.{statement}
 use Rattle.lookup.proofs.decode.statement_at.Tie as tie
@@ -35,7 +35,7 @@ op-of-requires : tie.Need-op-of-requires
 op-of-requires c κs = search rules
 
 returns : tie.Need-returns
-unfolding opAt
+unfolding op_at
 returns c =
     let a = c.before.before.before.before.args in
     λ i. record { op = c.op-of.ensures i; line = a.line }

@@ -1,6 +1,6 @@
 -- The parts differ, or the bytes before them are compared. Assumes nothing.
-use Rattle.tokens.specs.Ascii.{sameBytes}
-use Rattle.grammar.specs.Line.{nameIn}
+use Rattle.tokens.specs.Ascii.{same_bytes}
+use Rattle.grammar.specs.Line.{name_in}
 use Rattle.lookup.specs.Names.{entry}
 use borrow.Author.Rules.{rules}
 use mathlib.Core.Path.{ap, ◌∙◌}
@@ -21,7 +21,7 @@ element-copy-out-if1 : tie.Need-element-copy-out-if1
 element-copy-out-if1 c = search rules
 
 returns : tie.Need-returns
-unfolding nameIn entry
+unfolding name_in entry
 returns c = parts-differ _ _ _ _ c.if1.true
 
 mul-part : tie.Need-overflow-mul-part
@@ -46,11 +46,11 @@ same-requires : tie.Need-same-requires
 same-requires c κs = search rules
 
 returns-2 : tie.Need-returns-2
-unfolding nameIn entry
+unfolding name_in entry
 returns-2 c =
     let a = c.before.before.before.before.before.before.before.before.args in
     parts_same _ _ _ _ c.before.before.before.before.if1.false
-    (c.same.ensures ∙ ap (sameBytes a.x.now) c.before.part.ensures)
+    (c.same.ensures ∙ ap (same_bytes a.x.now) c.before.part.ensures)
 
 pub is-entry-spec : {M : Type 1} → statement M
 is-entry-spec =

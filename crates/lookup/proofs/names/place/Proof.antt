@@ -2,10 +2,10 @@
 use Prim.Native.Nat.{ℕ, ◌≤◌, ◌-◌, ◌+◌}
 use Rattle.lookup.proofs.Laws.Named.{nowhere, listed-length, listed_at}
 use Rattle.tokens.proofs.Laws.Scan.{until-pass, until_stop, until-done}
-use Rattle.grammar.specs.Line.{nameIn}
+use Rattle.grammar.specs.Line.{name_in}
 use Rattle.tokens.specs.Split.{until}
 use Rattle.tokens.specs.Token.{Name, same_name}
-use Rattle.lookup.specs.Names.{listed, namesIn}
+use Rattle.lookup.specs.Names.{listed, names_in}
 use Rattle.rules.specs.Scope.{place_of}
 use borrow.Author.Rules.{rules}
 use lib.ListN.{length, drop, get_or}
@@ -29,13 +29,13 @@ told : (c : tie.After-is-entry invariant-loop decreases-loop)
     → let a = c.before.before.before.before.before.before.args in
     let i = c.before.before.loop.i in
     same_name (record { base = c.before.before.before.before.part.result.now; part = a.n.part })
-    (get_or (listed a.s.now a.t.now a.set.from a.set.count) i (nameIn a.s.now nowhere))
+    (get_or (listed a.s.now a.t.now a.set.from a.set.count) i (name_in a.s.now nowhere))
     ≡ c.is-entry.result
 told c =
     let a = c.before.before.before.before.before.before.args in
     let i = c.before.before.loop.i in
     ap (same_name (record { base = c.before.before.before.before.part.result.now; part = a.n.part }))
-    (listed_at a.s.now a.t.now a.set.from a.set.count i (nameIn a.s.now nowhere) (omega arith))
+    (listed_at a.s.now a.t.now a.set.from a.set.count i (name_in a.s.now nowhere) (omega arith))
     ∙ sym c.is-entry.ensures
 
 -- the names of the set
@@ -62,11 +62,11 @@ is-entry-requires : tie.Need-is-entry-requires invariant-loop decreases-loop
 is-entry-requires c κs = search rules
 
 returns : tie.Need-returns invariant-loop decreases-loop
-unfolding place_of namesIn nameIn
+unfolding place_of names_in name_in
 returns c =
     let d = c.before.before.before.before.before.before.before in
     let L = c.before.before.before.loop in
-    until_stop (nameIn d.args.s.now nowhere) _ (names d) L.i (omega (arith, long d))
+    until_stop (name_in d.args.s.now nowhere) _ (names d) L.i (omega (arith, long d))
     (told c.before ∙ c.if1.true) L.invariant.1
     ∙ ap (λ (b : List ℕ). until (same_name (record { base = b; part = d.args.n.part })) (names d))
     c.before.before.before.before.before.part.ensures
@@ -82,16 +82,16 @@ loop-again c =
     let d = c.before.before.before.before.before.before.before in
     let L = c.before.before.before.loop in (
       omega arith,
-      until-pass (nameIn d.args.s.now nowhere) _ (names d) L.i (omega (arith, long d))
+      until-pass (name_in d.args.s.now nowhere) _ (names d) L.i (omega (arith, long d))
           (told c.before ∙ c.if1.false) L.invariant.1,
     )
 
 returns-2 : tie.Need-returns-2 invariant-loop decreases-loop
-unfolding place_of namesIn nameIn
+unfolding place_of names_in name_in
 returns-2 c =
     let d = c.before.before.before.before.before in
     let L = c.before.loop in
-    until-done (nameIn d.args.s.now nowhere) _ (names d) L.i (omega (arith, long d)) L.invariant.1
+    until-done (name_in d.args.s.now nowhere) _ (names d) L.i (omega (arith, long d)) L.invariant.1
     ∙ ap (λ (b : List ℕ). until (same_name (record { base = b; part = d.args.n.part })) (names d))
     c.before.before.before.part.ensures
 

@@ -1,7 +1,7 @@
 -- The invariant: the first `i` shares are stored. Assumes nothing.
 use Prim.Native.Nat.{ℕ, suc, ◌+◌, ◌-◌, ◌≤◌}
 use mathlib.Core.List.{List}
-use Rattle.lookup.specs.Names.{put, putShares}
+use Rattle.lookup.specs.Names.{put, put_shares}
 use borrow.Author.Rules.{rules}
 use mathlib.Core.Path.{◌≡◌, refl, ap, ◌∙◌}
 use native.Mathlib.Omega.{arith}
@@ -9,13 +9,13 @@ use Rattle.lookup.proofs.names.put_shares.Statement.{statement}
 use Rattle.lookup.proofs.names.put_shares.Tie as tie
 
 abbrev invariant-loop : tie.invariant-loop
-invariant-loop t₀ at x k i₀ t i = (i ≤ k) × (t ≡ putShares t₀ at x i)
+invariant-loop t₀ at x k i₀ t i = (i ≤ k) × (t ≡ put_shares t₀ at x i)
 
 abbrev decreases-loop : tie.decreases-loop
 decreases-loop t₀ at x k i₀ t i = k - i
 
 loop-holds : tie.Need-loop-init invariant-loop decreases-loop
-unfolding putShares
+unfolding put_shares
 loop-holds c = (omega arith, refl)
 
 cast-t8 : tie.Need-overflow-cast-t8 invariant-loop decreases-loop
@@ -34,7 +34,7 @@ loop-less : tie.Need-loop-smaller invariant-loop decreases-loop
 loop-less c = search rules
 
 loop-again : tie.Need-loop-preserved invariant-loop decreases-loop
-unfolding putShares
+unfolding put_shares
 loop-again c =
     let L = c.before.before.before.loop in
     let a = c.before.before.before.before.args in
@@ -43,7 +43,7 @@ loop-again c =
       omega arith,
       c.put.ensures
           ∙ ap (λ (t : List ℕ). put t (a.at + L.i) (record { at = x.at; len = x.len; part = L.i })) L.invariant.1
-          ∙ ap (putShares a.t.now a.at x) next,
+          ∙ ap (put_shares a.t.now a.at x) next,
     )
 
 returns : tie.Need-returns invariant-loop decreases-loop
@@ -51,7 +51,7 @@ returns c =
     let L = c.before.loop in
     let a = c.before.before.args in
     let all : L.i ≡ a.k = omega arith in
-    L.invariant.1 ∙ ap (putShares a.t.now a.at a.x) all
+    L.invariant.1 ∙ ap (put_shares a.t.now a.at a.x) all
 
 pub put-shares-spec : {M : Type 1} → statement M
 put-shares-spec =

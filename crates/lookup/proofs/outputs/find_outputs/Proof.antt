@@ -5,14 +5,14 @@ use native.Mathlib.Numerals.{add-one}
 use mathlib.Core.Bool.{Bool, ◌||◌}
 use mathlib.Core.List.{map}
 use Rattle.tokens.specs.Ascii.{any}
-use Rattle.lookup.specs.Found.{nameFound}
+use Rattle.lookup.specs.Found.{name_found}
 use Rattle.lookup.specs.declared.scope.NameFound.{NameFound}
 use Rattle.rules.specs.Scope.{place_of, missing}
 use Rattle.rules.proofs.Laws.Listing.{any_next, any-done, map_next, map-done}
 use Rattle.tokens.specs.Token.{Name}
-use Rattle.grammar.specs.Recorded.{namesRead}
-use Rattle.grammar.specs.Line.{nameIn}
-use Rattle.lookup.specs.Names.{namesIn}
+use Rattle.grammar.specs.Recorded.{names_read}
+use Rattle.grammar.specs.Line.{name_in}
+use Rattle.lookup.specs.Names.{names_in}
 use Rattle.lookup.proofs.Laws.Named.{nowhere, read_length, read_at}
 use borrow.Author.Rules.{rules}
 use native.Mathlib.Omega.{arith}
@@ -26,10 +26,10 @@ use Rattle.lookup.proofs.outputs.find_outputs.Tie as tie
 abbrev invariant-loop : tie.invariant-loop
 invariant-loop s t set items count places₀ unknown₀ i₀ places unknown i =
     (i ≤ count) × (length places ≡ 8)
-    × (any (missing (namesIn s t set)) (map (nameIn s) (take count items)) ≡ unknown || any (missing (namesIn s t set))
-    (drop i (map (nameIn s) (take count items))))
-    × (map (λ x. place_of x (namesIn s t set)) (map (nameIn s) (take count items)) ≡ take i places ++ map
-    (λ x. place_of x (namesIn s t set)) (drop i (map (nameIn s) (take count items))))
+    × (any (missing (names_in s t set)) (map (name_in s) (take count items)) ≡ unknown || any (missing (names_in s t set))
+    (drop i (map (name_in s) (take count items))))
+    × (map (λ x. place_of x (names_in s t set)) (map (name_in s) (take count items)) ≡ take i places ++ map
+    (λ x. place_of x (names_in s t set)) (drop i (map (name_in s) (take count items))))
 
 abbrev decreases-loop : tie.decreases-loop
 decreases-loop s t set items count places₀ unknown₀ i₀ places unknown i = count - i
@@ -62,16 +62,16 @@ loop-less : tie.Need-loop-smaller invariant-loop decreases-loop
 loop-less c = search rules
 
 loop-again : tie.Need-loop-preserved invariant-loop decreases-loop
-unfolding namesRead nameFound
+unfolding names_read name_found
 loop-again c =
     let d = c.before.before.before.before.before.before.before in
     let s = d.args.s.now in
     let o = d.args.o in
-    let ns = namesRead s o in
+    let ns = names_read s o in
     let long = read_length s o d.requires.0 in
     let L = c.before.before.before.before.loop in
     let i = L.i in
-    let ms = namesIn s d.args.t.now d.args.set in
+    let ms = names_in s d.args.t.now d.args.set in
     let f : Name → ℕ = λ x. place_of x ms in
     let here = read_at s o d.requires.0 i (omega arith) in
     let found = c.before.find-name in
@@ -83,29 +83,29 @@ loop-again c =
     rw add-one (take-suc-set L.places i place room) in (
       omega arith,
       length-set L.places i place ∙ L.invariant.1,
-      any_next (nameIn s nowhere) ns i (missing ms) L.unknown L.invariant.2 (omega arith) absent
+      any_next (name_in s nowhere) ns i (missing ms) L.unknown L.invariant.2 (omega arith) absent
           ∙ ap (λ (u : Bool). u || any (missing ms) (drop (i + 1) ns)) (sym c.one_of.ensures),
-      map_next (nameIn s nowhere) ns i f (take i L.places) L.invariant.3 (omega arith) place placed
+      map_next (name_in s nowhere) ns i f (take i L.places) L.invariant.3 (omega arith) place placed
           ∙ ap (λ (l : List ℕ). l ++ map f (drop (i + 1) ns)) (sym longer),
     )
 
 returns : tie.Need-returns invariant-loop decreases-loop
-unfolding namesRead
+unfolding names_read
 returns c =
     let d = c.before.before.before.before in
     let s = d.args.s.now in
     let o = d.args.o in
-    let ns = namesRead s o in
+    let ns = names_read s o in
     let long = read_length s o d.requires.0 in
     let L = c.before.loop in
     let i = L.i in
-    let ms = namesIn s d.args.t.now d.args.set in
+    let ms = names_in s d.args.t.now d.args.set in
     let all : o.count ≡ i = omega arith in
     record {
-      unknown = any-done (nameIn s nowhere) ns i (missing ms) L.unknown L.invariant.2 (omega arith);
+      unknown = any-done (name_in s nowhere) ns i (missing ms) L.unknown L.invariant.2 (omega arith);
       places =
           ap (λ (n : ℕ). take n L.places) all
-          ∙ map-done (nameIn s nowhere) ns i (λ x. place_of x ms) (take i L.places) L.invariant.3 (omega arith);
+          ∙ map-done (name_in s nowhere) ns i (λ x. place_of x ms) (take i L.places) L.invariant.3 (omega arith);
     }
 
 pub find-outputs-spec : {M : Type 1} → statement M

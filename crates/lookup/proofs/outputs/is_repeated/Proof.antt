@@ -1,10 +1,10 @@
 -- The invariant: the first i names are seen, and none of them twice. Assumes nothing.
-use Rattle.grammar.specs.Line.{nameIn}
-use Rattle.grammar.specs.Recorded.{namesRead}
+use Rattle.grammar.specs.Line.{name_in}
+use Rattle.grammar.specs.Recorded.{names_read}
 use Rattle.tokens.specs.Token.{Name}
-use Rattle.lookup.specs.Names.{listed, namesIn, put}
-use Rattle.rules.specs.Scope.{given, repeated, repeatedIn}
-use Rattle.rules.proofs.Laws.Listing.{repeated-pass, repeated-hit, repeated-done}
+use Rattle.lookup.specs.Names.{listed, names_in, put}
+use Rattle.rules.specs.Scope.{given, repeated, repeated_in}
+use Rattle.rules.proofs.Laws.Listing.{repeated-pass, repeated_hit, repeated-done}
 use Rattle.lookup.proofs.Laws.Named.{nowhere, read_length, read_at, put-length, listed_next}
 use native.Mathlib.Omega.{arith}
 use Prim.Native.Nat.{ℕ, ◌≤◌, ◌+◌, ◌-◌}
@@ -17,8 +17,8 @@ use Rattle.lookup.proofs.outputs.is_repeated.Tie as tie
 
 abbrev invariant-loop : tie.invariant-loop
 invariant-loop s items count seen₀ i₀ seen i =
-    let ns = map (nameIn s) (take count items) in
-    (i ≤ count) × (length seen ≡ 1656) × (repeated ns ≡ repeatedIn (listed s seen 0 i) (drop i ns))
+    let ns = map (name_in s) (take count items) in
+    (i ≤ count) × (length seen ≡ 1656) × (repeated ns ≡ repeated_in (listed s seen 0 i) (drop i ns))
 
 abbrev decreases-loop : tie.decreases-loop
 decreases-loop s items count seen₀ i₀ seen i = count - i
@@ -40,19 +40,19 @@ is-given-requires : tie.Need-is-given-requires invariant-loop decreases-loop
 is-given-requires c κs = search rules
 
 returns : tie.Need-returns invariant-loop decreases-loop
-unfolding namesRead namesIn
+unfolding names_read names_in
 returns c =
     let d = c.before.before.before.before.before.before.before.before.before in
     let s = d.args.s.now in
     let o = d.args.o in
-    let ns = namesRead s o in
+    let ns = names_read s o in
     let long = read_length s o d.requires in
     let L = c.before.before.before.before.before.loop in
     let i = L.i in
     let seen = listed s L.seen 0 i in
     let told = ap (λ (x : Name). given x seen) (read_at s o d.requires i (omega arith))
     ∙ sym c.before.is-given.ensures ∙ c.if1.true in
-    repeated-hit (nameIn s nowhere) ns i seen L.invariant.2 (omega arith) told
+    repeated_hit (name_in s nowhere) ns i seen L.invariant.2 (omega arith) told
 
 put-requires : tie.Need-put-requires invariant-loop decreases-loop
 put-requires c κs = search rules
@@ -64,14 +64,14 @@ loop-less : tie.Need-loop-smaller invariant-loop decreases-loop
 loop-less c = search rules
 
 loop-again : tie.Need-loop-preserved invariant-loop decreases-loop
-unfolding namesRead namesIn
+unfolding names_read names_in
 loop-again c =
     let b2 = c.before.before in
     let b3 = c.before.before.before in
     let d = c.before.before.before.before.before.before.before.before.before.before.before in
     let s = d.args.s.now in
     let o = d.args.o in
-    let ns = namesRead s o in
+    let ns = names_read s o in
     let long = read_length s o d.requires in
     let L = c.before.before.before.before.before.before.before.loop in
     let i = L.i in
@@ -87,20 +87,20 @@ loop-again c =
     ∙ listed_next s L.seen n 0 i (omega (arith, few)) L.invariant.1) in (
       omega arith,
       ap length c.put.ensures ∙ put-length L.seen i n ∙ L.invariant.1,
-      repeated-pass (nameIn s nowhere) ns i seen L.invariant.2 (omega arith) told
-          ∙ ap (λ (ms : List Name). repeatedIn ms (drop (i + 1) ns)) more,
+      repeated-pass (name_in s nowhere) ns i seen L.invariant.2 (omega arith) told
+          ∙ ap (λ (ms : List Name). repeated_in ms (drop (i + 1) ns)) more,
     )
 
 returns-2 : tie.Need-returns-2 invariant-loop decreases-loop
-unfolding namesRead
+unfolding names_read
 returns-2 c =
     let d = c.before.before.before.before.before in
     let s = d.args.s.now in
     let o = d.args.o in
-    let ns = namesRead s o in
+    let ns = names_read s o in
     let long = read_length s o d.requires in
     let L = c.before.loop in
-    repeated-done (nameIn s nowhere) ns L.i (listed s L.seen 0 L.i) L.invariant.2 (omega arith)
+    repeated-done (name_in s nowhere) ns L.i (listed s L.seen 0 L.i) L.invariant.2 (omega arith)
 
 pub is-repeated-spec : {M : Type 1} → statement M
 is-repeated-spec =

@@ -1,7 +1,7 @@
 -- The name is given where its place is below the number of names. Assumes nothing.
 use Rattle.lookup.proofs.Laws.Named.{listed-length}
-use Rattle.lookup.specs.Found.{nameFound}
-use Rattle.lookup.specs.Names.{namesIn}
+use Rattle.lookup.specs.Found.{name_found}
+use Rattle.lookup.specs.Names.{names_in}
 use Rattle.rules.specs.Scope.{given, missing}
 use borrow.Author.Rules.{rules}
 use lib.Dec.{ltb}
@@ -14,7 +14,7 @@ place-requires : tie.Need-place-requires
 place-requires c κs = search rules
 
 returns : tie.Need-returns
-unfolding nameFound missing given namesIn
+unfolding name_found missing given names_in
 returns c =
     let a = c.before.before.before.args in
     let long = sym (listed-length a.s.now a.t.now a.set.from a.set.count) in

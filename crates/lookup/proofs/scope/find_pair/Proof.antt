@@ -1,5 +1,5 @@
 -- Both operands are found. Assumes nothing.
-use Rattle.lookup.specs.Found.{pairFound}
+use Rattle.lookup.specs.Found.{pair_found}
 use mathlib.Core.Path.{◌∙◌}
 use borrow.Author.Rules.{rules}
 use Rattle.lookup.proofs.scope.find_pair.Statement.{statement}
@@ -21,7 +21,7 @@ operate-requires : tie.Need-operate-requires
 operate-requires c κs = search rules
 
 returns : tie.Need-returns
-unfolding pairFound
+unfolding pair_found
 returns c =
     let b = c.before in
     let o = c.before.before.before.before.before.before.args.o in
@@ -31,7 +31,7 @@ returns c =
       op = c.operate.ensures i;
       drawn = 0;
     })
-    ∙ (λ i. pairFound o (b.before.before.before.find-term.ensures i) (b.before.before.find-term2.ensures i))
+    ∙ (λ i. pair_found o (b.before.before.before.find-term.ensures i) (b.before.before.find-term2.ensures i))
 
 pub find-pair-spec : {M : Type 1} → statement M
 find-pair-spec =

@@ -1,6 +1,6 @@
 -- A name is looked up, a byte is itself. Assumes nothing.
 use Rattle.lookup.proofs.Laws.Finding.{term-name, term-byte, term-bad}
-use Rattle.lookup.specs.Names.{namesIn}
+use Rattle.lookup.specs.Names.{names_in}
 use borrow.Author.Rules.{rules}
 use Rattle.lookup.proofs.scope.find_term.Statement.{statement}
 use Rattle.lookup.proofs.scope.find_term.Tie as tie
@@ -23,12 +23,12 @@ returns c = term-name _ _ _ c.before.before.a.given.1 c.find-name.ensures
 returns-2 : tie.Need-returns-2
 returns-2 c =
     let a = c.before.before.before.before.args in
-    term-byte a.s.now (namesIn a.s.now a.t.now a.set) _ c.before.a2.given.1
+    term-byte a.s.now (names_in a.s.now a.t.now a.set) _ c.before.a2.given.1
 
 returns-3 : tie.Need-returns-3
 returns-3 c =
     let a = c.before.before.before.args in
-    term-bad a.s.now (namesIn a.s.now a.t.now a.set) c.enum_told.given.1
+    term-bad a.s.now (names_in a.s.now a.t.now a.set) c.enum_told.given.1
 
 pub find-term-spec : {M : Type 1} → statement M
 find-term-spec =

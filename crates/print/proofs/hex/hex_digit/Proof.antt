@@ -1,6 +1,6 @@
 -- `print::hex::hex_digit` meets its contract. Assumes nothing.
 use borrow.Author.Tests.{lt-ltb, le-ltb}
-use Rattle.verdict.specs.Print.{hexDigit}
+use Rattle.verdict.specs.Print.{hex_digit}
 use borrow.Author.Rules.{rules}
 use Rattle.print.proofs.hex.hex_digit.Statement.{statement}
 use Rattle.print.proofs.hex.hex_digit.Tie as tie
@@ -12,11 +12,11 @@ add-result-2 : tie.Need-overflow-add-result-2
 add-result-2 c = search rules
 
 returns : tie.Need-returns
-unfolding hexDigit
+unfolding hex_digit
 returns c = rw (lt-ltb c.before.args.d 10 c.if1.true)
 
 returns-2 : tie.Need-returns-2
-unfolding hexDigit
+unfolding hex_digit
 returns-2 c = rw (le-ltb c.before.args.d 10 c.if1.false)
 
 pub hex-digit-spec : {M : Type 1} → statement M

@@ -1,5 +1,5 @@
 -- `print::number::put_digits` meets its contract. Assumes nothing.
-use Rattle.print.proofs.Laws.Decimal.{one-room, tenth-room, last-room}
+use Rattle.print.proofs.Laws.Decimal.{one-room, tenth_room, last-room}
 use Prim.Native.Nat.{◌^◌, ◌/◌}
 use Rattle.print.proofs.Laws.Decimal.{decimal-small, decimal-more}
 use Rattle.print.proofs.Laws.Put.{put-join, put_as}
@@ -30,7 +30,7 @@ abbrev put-digits-below : ℕ → In 1 put-digits-kinds.ps
 put-digits-below t =
     and 1 put-digits-kinds.ps (falls 1 put-digits-kinds.ps ◌<◌ μ-put-digits t) put-digits.Pre
 
-put-digits-digit-requires : (t : ℕ) → put-digits-lts.Need-digit-requires (
+put-digits-digit_requires : (t : ℕ) → put-digits-lts.Need-digit-requires (
   digit-reads.Asked,
   digit-reads.Learnt,
   put-byte-reads.Asked,
@@ -38,9 +38,9 @@ put-digits-digit-requires : (t : ℕ) → put-digits-lts.Need-digit-requires (
   put-digits-below t,
   put-digits.Post,
 ) (put-digits-at t) put-digits.Post
-put-digits-digit-requires t c κs = search rules
+put-digits-digit_requires t c κs = search rules
 
-put-digits-put-byte-requires : (t : ℕ) → put-digits-lts.Need-put-byte-requires (
+put-digits-put-byte_requires : (t : ℕ) → put-digits-lts.Need-put-byte-requires (
   digit-reads.Asked,
   digit-reads.Learnt,
   put-byte-reads.Asked,
@@ -48,11 +48,11 @@ put-digits-put-byte-requires : (t : ℕ) → put-digits-lts.Need-put-byte-requir
   put-digits-below t,
   put-digits.Post,
 ) (put-digits-at t) put-digits.Post
-put-digits-put-byte-requires t c κs =
+put-digits-put-byte_requires t c κs =
     let s = c.before.before.before.before in
     one-room s.args.n s.args.at s.args.out.now c.before.before.if1.true s.requires.1
 
-put-digits-same-length : (t : ℕ) → put-digits-lts.Need-same-length (
+put-digits-same_length : (t : ℕ) → put-digits-lts.Need-same-length (
   digit-reads.Asked,
   digit-reads.Learnt,
   put-byte-reads.Asked,
@@ -60,7 +60,7 @@ put-digits-same-length : (t : ℕ) → put-digits-lts.Need-same-length (
   put-digits-below t,
   put-digits.Post,
 ) (put-digits-at t) put-digits.Post
-put-digits-same-length t c = search rules
+put-digits-same_length t c = search rules
 
 put-digits-returns : (t : ℕ) → put-digits-lts.Need-returns (
   digit-reads.Asked,
@@ -76,7 +76,7 @@ put-digits-returns t c =
     put_as (ap (λ (b : ℕ). b ∷ []) d.ensures ∙ sym (decimal-small f.before.before.args.n f.if1.true))
     c.before.before.put_byte.ensures
 
-put-digits-put-digits-requires : (t : ℕ) → put-digits-lts.Need-put-digits-requires (
+put-digits-put-digits_requires : (t : ℕ) → put-digits-lts.Need-put-digits-requires (
   digit-reads.Asked,
   digit-reads.Learnt,
   put-byte-reads.Asked,
@@ -84,12 +84,12 @@ put-digits-put-digits-requires : (t : ℕ) → put-digits-lts.Need-put-digits-re
   put-digits-below t,
   put-digits.Post,
 ) (put-digits-at t) put-digits.Post
-put-digits-put-digits-requires t c κs =
+put-digits-put-digits_requires t c κs =
     let s = c.before.before.before in
     let l : s.args.n < 2 ^ 64 = omega arith in
-    (omega arith, tenth-room s.args.n s.args.at s.args.out.now c.before.if1.false l s.requires.1)
+    (omega arith, tenth_room s.args.n s.args.at s.args.out.now c.before.if1.false l s.requires.1)
 
-put-digits-digit-requires-2 : (t : ℕ) → put-digits-lts.Need-digit-requires-2 (
+put-digits-digit_requires_2 : (t : ℕ) → put-digits-lts.Need-digit-requires-2 (
   digit-reads.Asked,
   digit-reads.Learnt,
   put-byte-reads.Asked,
@@ -97,9 +97,9 @@ put-digits-digit-requires-2 : (t : ℕ) → put-digits-lts.Need-digit-requires-2
   put-digits-below t,
   put-digits.Post,
 ) (put-digits-at t) put-digits.Post
-put-digits-digit-requires-2 t c κs = search rules
+put-digits-digit_requires_2 t c κs = search rules
 
-put-digits-put-byte-requires-2 : (t : ℕ) → put-digits-lts.Need-put-byte-requires-2 (
+put-digits-put-byte_requires_2 : (t : ℕ) → put-digits-lts.Need-put-byte-requires-2 (
   digit-reads.Asked,
   digit-reads.Learnt,
   put-byte-reads.Asked,
@@ -107,13 +107,13 @@ put-digits-put-byte-requires-2 : (t : ℕ) → put-digits-lts.Need-put-byte-requ
   put-digits-below t,
   put-digits.Post,
 ) (put-digits-at t) put-digits.Post
-put-digits-put-byte-requires-2 t c κs =
+put-digits-put-byte_requires_2 t c κs =
     let p = c.before.before.before.before in
     let s = p.before.before.before.before in
     let l : s.args.n < 2 ^ 64 = omega arith in
     last-room s.args.n p.put-digits.ensures p.before.before.if1.false l s.requires.1
 
-put-digits-same-length-2 : (t : ℕ) → put-digits-lts.Need-same-length-2 (
+put-digits-same_length-2 : (t : ℕ) → put-digits-lts.Need-same-length-2 (
   digit-reads.Asked,
   digit-reads.Learnt,
   put-byte-reads.Asked,
@@ -121,7 +121,7 @@ put-digits-same-length-2 : (t : ℕ) → put-digits-lts.Need-same-length-2 (
   put-digits-below t,
   put-digits.Post,
 ) (put-digits-at t) put-digits.Post
-put-digits-same-length-2 t c = search rules
+put-digits-same_length-2 t c = search rules
 
 put-digits-returns-2 : (t : ℕ) → put-digits-lts.Need-returns-2 (
   digit-reads.Asked,
@@ -153,12 +153,12 @@ pub +put-digits-spec : {M : Type 1} → statement M
 )
     (put-digits-at t)
     put-digits.Post
-    (put-digits-digit-requires t)
-    (put-digits-put-byte-requires t)
-    (put-digits-same-length t)
+    (put-digits-digit_requires t)
+    (put-digits-put-byte_requires t)
+    (put-digits-same_length t)
     (put-digits-returns t)
-    (put-digits-put-digits-requires t)
-    (put-digits-digit-requires-2 t)
-    (put-digits-put-byte-requires-2 t)
-    (put-digits-same-length-2 t)
+    (put-digits-put-digits_requires t)
+    (put-digits-digit_requires_2 t)
+    (put-digits-put-byte_requires_2 t)
+    (put-digits-same_length-2 t)
     (put-digits-returns-2 t)

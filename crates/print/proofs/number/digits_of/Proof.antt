@@ -1,5 +1,5 @@
 -- `print::number::digits_of` meets its contract. Assumes nothing.
-use Rattle.print.proofs.Laws.Decimal.{decimal-length-more}
+use Rattle.print.proofs.Laws.Decimal.{decimal-length_more}
 use Prim.Native.Nat.{◌^◌}
 use Rattle.print.proofs.Laws.Decimal.{decimal-small, decimal-length}
 use Rattle.verdict.specs.Print.{decimal}
@@ -29,7 +29,7 @@ loop-less c = search rules
 loop-again : tie.Need-loop-preserved invariant-loop decreases-loop
 loop-again c =
     let r : ℕ = c.before.loop.rest in
-    (omega arith, omega (arith, decimal-length-more r c.loop-test.true c.before.loop.invariant.0))
+    (omega arith, omega (arith, decimal-length_more r c.loop-test.true c.before.loop.invariant.0))
 
 returns : tie.Need-returns invariant-loop decreases-loop
 returns c =

@@ -3,7 +3,7 @@ use mathlib.Core.Path.{◌≡◌, sym, ◌∙◌, subst}
 use native.Mathlib.Omega.{arith}
 use Prim.Native.Nat.{ℕ, ◌*◌, ◌-◌, ◌≤◌, ◌<◌}
 use lib.ListN.{length}
-use Rattle.product.proofs.Lent.Mapping.{InApply, first-room, apply-start, apply-done, apply-asks, apply-more}
+use Rattle.product.proofs.Lent.Mapping.{InApply, first-room, apply-start, apply-done, apply_asks, apply-more}
 use borrow.Author.Rules.{rules}
 use Rattle.product.proofs.apply.apply.Statement.{statement}
 use Rattle.product.proofs.apply.apply.Tie as tie
@@ -37,7 +37,7 @@ scaled-row-requires : tie.Need-scaled-row-requires invariant-loop decreases-loop
 scaled-row-requires c κs =
     let l = c.before.before.before.before.loop in
     let a = c.before.before.before.before.before.before.before.before.before.before.before.before.args in
-    apply-asks a.m a.c a.t2 a.src.now a.k a.t.now _ l.b l.src l.t l.n l.j l.invariant
+    apply_asks a.m a.c a.t2 a.src.now a.k a.t.now _ l.b l.src l.t l.n l.j l.invariant
     (omega arith)
 
 square-terms-requires : tie.Need-square-terms-requires invariant-loop decreases-loop
@@ -47,7 +47,7 @@ square-terms-requires c κs =
     let a = o.before.before.before.before.before.before.before.before.before.args in
     let p = c.before.before.before.before.before.before.scaled-row in
     let t' = c.before.before.before.t in
-    let s = apply-asks a.m a.c a.t2 a.src.now a.k a.t.now _ l.b l.src l.t l.n l.j
+    let s = apply_asks a.m a.c a.t2 a.src.now a.k a.t.now _ l.b l.src l.t l.n l.j
     l.invariant (omega arith) in
     let e : length p.new.1.1.1.1.1.1.0 ≡ length l.t = t'.given in
     (subst (λ (x : ℕ). 0 < x) (sym e) s.some, subst (λ (x : ℕ). a.k * x ≤ length l.src) (sym e) s.source)

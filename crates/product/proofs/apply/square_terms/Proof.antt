@@ -2,8 +2,8 @@
 use native.Mathlib.Omega.{arith}
 use lib.ListN.{length}
 use Rattle.buffer.proofs.Lent.Strides.{Back}
-use Rattle.product.proofs.Lent.Applying.{InSquares, squares-start, squares-done, square-back, one-length}
-use Rattle.product.proofs.Lent.Applying.{squares-more}
+use Rattle.product.proofs.Lent.Applying.{InSquares, squares_start, squares_done, square-back, one-length}
+use Rattle.product.proofs.Lent.Applying.{squares_more}
 use borrow.Author.Rules.{rules}
 use Rattle.product.proofs.apply.square_terms.Statement.{statement}
 use Rattle.product.proofs.apply.square_terms.Tie as tie
@@ -30,7 +30,7 @@ mul_at c = omega (arith, c.before.before.requires.1)
 loop-holds : tie.Need-loop-init invariant-loop decreases-loop
 loop-holds c =
     let a = c.before.before.args in
-    squares-start a.m a.src.now a.k a.t.now c.before.before.requires.0 c.before.before.requires.1
+    squares_start a.m a.src.now a.k a.t.now c.before.before.requires.0 c.before.before.requires.1
 
 sub-j : tie.Need-overflow-sub-j invariant-loop decreases-loop
 sub-j c = search rules
@@ -93,7 +93,7 @@ loop-again c =
     let p = c.before.before.before.before.before.before.before.term-product in
     let t' = c.before.before.before.before.before.before.t in
     let v = c.before.before.write-at in
-    squares-more a.m a.src.now a.k a.t.now l.src l.t l.j l.at (omega arith) l.invariant
+    squares_more a.m a.src.now a.k a.t.now l.src l.t l.j l.at (omega arith) l.invariant
     p.new.1.1.1.0 v.new.0 p.ensures t'.given v.ensures
 
 same_length : tie.Need-same-length invariant-loop decreases-loop
@@ -106,7 +106,7 @@ returns : tie.Need-returns invariant-loop decreases-loop
 returns c =
     let l = c.before.loop in
     let a = c.before.before.before.before.args in
-    squares-done a.m a.src.now a.k a.t.now l.src l.t l.j l.at (omega arith) l.invariant
+    squares_done a.m a.src.now a.k a.t.now l.src l.t l.j l.at (omega arith) l.invariant
 
 pub square-terms-spec : {M : Type 1} → statement M
 square-terms-spec =

@@ -3,7 +3,7 @@ use mathlib.Core.Path.{refl, sym, ◌∙◌, subst}
 use native.Mathlib.Omega.{arith}
 use Prim.Native.Nat.{ℕ, ◌-◌, ◌≤◌, ◌<◌}
 use lib.ListN.{length, length-set}
-use Rattle.buffer.proofs.Lent.Strides.{pos-of-ne}
+use Rattle.buffer.proofs.Lent.Strides.{pos_of_ne}
 use Rattle.product.proofs.Lent.Applying.{constant-none, constant-fits, Cleared, cleared-first, cleared_more}
 use Rattle.product.proofs.Lent.Applying.{constant-done}
 use borrow.Author.Rules.{rules}
@@ -25,12 +25,12 @@ slice-write-b : tie.Need-slice-write-b invariant-loop decreases-loop
 slice-write-b c =
     let a = c.before.args in
     let r = c.before.requires in
-    omega (arith, constant-fits a.c a.w (length a.b.now) (pos-of-ne a.c c.if1.false) r.1, r.0)
+    omega (arith, constant-fits a.c a.w (length a.b.now) (pos_of_ne a.c c.if1.false) r.1, r.0)
 
 loop-holds : tie.Need-loop-init invariant-loop decreases-loop
 loop-holds c =
     let a = c.before.args in
-    let f = constant-fits a.c a.w (length a.b.now) (pos-of-ne a.c c.if1.false) c.before.requires.1 in
+    let f = constant-fits a.c a.w (length a.b.now) (pos_of_ne a.c c.if1.false) c.before.requires.1 in
     let p = c.before.requires.0 in (
       omega arith,
       p,
@@ -70,7 +70,7 @@ returns-2 c =
     let l = c.before.loop in
     let r = c.before.before.before.requires in
     let y1 = c.before.before.if1 in
-    constant-done a.b.now l.b a.c a.w l.j r.0 (pos-of-ne a.c y1.false) r.1 (omega arith)
+    constant-done a.b.now l.b a.c a.w l.j r.0 (pos_of_ne a.c y1.false) r.1 (omega arith)
     l.invariant.1 l.invariant.3
 
 pub write-constant-spec : {M : Type 1} → statement M

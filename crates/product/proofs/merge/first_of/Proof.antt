@@ -4,7 +4,7 @@ use mathlib.Core.Path.{◌∙◌}
 use native.Mathlib.Omega.{arith}
 use lib.ListN.{length}
 use Rattle.buffer.proofs.Lent.Strides.{rows-below}
-use Rattle.product.proofs.Lent.Merging.{facing-end, facing-met}
+use Rattle.product.proofs.Lent.Merging.{facing_end, facing-met}
 use borrow.Author.Rules.{rules}
 use Rattle.product.proofs.merge.first_of.Statement.{statement}
 use Rattle.product.proofs.merge.first_of.Tie as tie
@@ -20,7 +20,7 @@ here c =
 returns : tie.Need-returns
 returns c =
     let a = c.before.before.args in
-    facing-end a.b.now a.w a.i a.end a.j c.if1.true
+    facing_end a.b.now a.w a.i a.end a.j c.if1.true
 
 mul-x : tie.Need-overflow-mul-x
 mul-x c = omega (arith, here c.before.before)

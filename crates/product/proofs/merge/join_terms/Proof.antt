@@ -5,7 +5,7 @@ use native.Mathlib.Nat.{mul-le-mul_right}
 use lib.ListN.{length, get_or, length-set}
 use Rattle.field.specs.Xor as X
 use Rattle.field.specs.Xor.{◌⊕◌}
-use Rattle.buffer.proofs.Lent.Strides.{next_row, pos-of-ne}
+use Rattle.buffer.proofs.Lent.Strides.{next_row, pos_of_ne}
 use Rattle.product.proofs.Lent.Merging.{joined-none, joined-some}
 use borrow.Author.Rules.{rules}
 use Rattle.product.proofs.merge.join_terms.Statement.{statement}
@@ -62,7 +62,7 @@ returns-2 c =
     let t = c.before.before.take-term in
     joined-some a.b.now t.new.0 a.i a.k a.w
     (get_or a.b.now (a.j * a.w) 0 ⊕ get_or a.b.now (a.i * a.w) 0) h.0 h.1 (here o).2
-    (pos-of-ne _ c.before.before.before.before.if1.false) t.ensures
+    (pos_of_ne _ c.before.before.before.before.if1.false) t.ensures
 
 same_length : tie.Need-same-length
 same_length c = (returns-2 c).size

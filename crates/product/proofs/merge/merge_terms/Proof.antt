@@ -3,8 +3,8 @@ use Prim.Native.Nat.{◌+◌, ◌*◌, ◌-◌, ◌≤◌}
 use mathlib.Core.Path.{◌≡◌}
 use native.Mathlib.Omega.{arith}
 use lib.ListN.{length}
-use Rattle.product.proofs.Lent.Merged.{InMerge, merge-room, merge-start, merge-asks, merge-more, merge-left}
-use Rattle.product.proofs.Lent.Merged.{merge-done}
+use Rattle.product.proofs.Lent.Merged.{InMerge, merge_room, merge_start, merge_asks, merge_more, merge_left}
+use Rattle.product.proofs.Lent.Merged.{merge_done}
 use Rattle.product.proofs.merge.merge_terms.Statement.{statement}
 use Rattle.product.proofs.merge.merge_terms.Tie as tie
 
@@ -17,48 +17,48 @@ decreases-loop b₀ n at r w last g₀ b g = at - g.sum + (at + r - g.piece)
 mul-move-up : tie.Need-overflow-mul-move-up invariant-loop decreases-loop
 mul-move-up c =
     let a = c.before.before.args in
-    omega (arith, merge-room a.b.now a.n a.at a.r a.w c.before.before.requires)
+    omega (arith, merge_room a.b.now a.n a.at a.r a.w c.before.before.requires)
 
 sub-move-up : tie.Need-overflow-sub-move-up invariant-loop decreases-loop
 sub-move-up c =
     let a = c.before.before.args in
-    omega (arith, merge-room a.b.now a.n a.at a.r a.w c.before.before.requires)
+    omega (arith, merge_room a.b.now a.n a.at a.r a.w c.before.before.requires)
 
 mul-move-up-2 : tie.Need-overflow-mul-move-up-2 invariant-loop decreases-loop
 mul-move-up-2 c =
     let a = c.before.before.args in
-    omega (arith, merge-room a.b.now a.n a.at a.r a.w c.before.before.requires)
+    omega (arith, merge_room a.b.now a.n a.at a.r a.w c.before.before.requires)
 
 move-up-requires : tie.Need-move-up-requires invariant-loop decreases-loop
 move-up-requires c κs =
     let a = c.before.before.args in
-    omega (arith, merge-room a.b.now a.n a.at a.r a.w c.before.before.requires)
+    omega (arith, merge_room a.b.now a.n a.at a.r a.w c.before.before.requires)
 
 add-last : tie.Need-overflow-add-last invariant-loop decreases-loop
 add-last c =
     let o = c.before.before.before.before.before in
     let a = o.args in
-    omega (arith, merge-room a.b.now a.n a.at a.r a.w o.requires)
+    omega (arith, merge_room a.b.now a.n a.at a.r a.w o.requires)
 
 sub-move-down : tie.Need-overflow-sub-move-down invariant-loop decreases-loop
 sub-move-down c =
     let o = c.before.before.before.before.before in
     let a = o.args in
-    omega (arith, merge-room a.b.now a.n a.at a.r a.w o.requires)
+    omega (arith, merge_room a.b.now a.n a.at a.r a.w o.requires)
 
 loop-holds : tie.Need-loop-init invariant-loop decreases-loop
 loop-holds c =
     let o = c.before.before.before.before.before in
     let a = o.args in
     let u = c.before.before.move_up in
-    merge-start a.b.now a.n a.at a.r a.w u.new.0 o.requires u.ensures
+    merge_start a.b.now a.n a.at a.r a.w u.new.0 o.requires u.ensures
 
 merge-step-requires : tie.Need-merge-step-requires invariant-loop decreases-loop
 merge-step-requires c κs =
     let l = c.before.before.before.loop in
     let a = c.before.before.before.before.before.before.before.before.before.args in
     let u = c.before.before.before.before.before.before.move_up in
-    merge-asks u.new.0 a.n a.at a.r a.w l.b l.g.terms l.g.sum l.g.piece l.invariant
+    merge_asks u.new.0 a.n a.at a.r a.w l.b l.g.terms l.g.sum l.g.piece l.invariant
     (omega arith)
 
 loop-less : tie.Need-loop-smaller invariant-loop decreases-loop
@@ -76,7 +76,7 @@ loop-again c =
     let a = o.before.before.before.before.before.before.args in
     let s = c.before.before.merge_step in
     let u = o.before.before.before.move_up in
-    merge-more u.new.0 a.n a.at a.r a.w l.b l.g.terms l.g.sum l.g.piece l.invariant
+    merge_more u.new.0 a.n a.at a.r a.w l.b l.g.terms l.g.sum l.g.piece l.invariant
     c.before.before.before.before.if1.true s.new.0 s.result.terms s.result.sum s.result.piece
     s.ensures
 
@@ -91,7 +91,7 @@ here c =
     let l = c.before.before.before.loop in
     let a = c.before.before.before.before.before.before.before.before.before.args in
     let u = c.before.before.before.before.before.before.move_up in
-    merge-left u.new.0 a.n a.at a.r a.w l.b l.g.terms l.g.sum l.g.piece l.invariant
+    merge_left u.new.0 a.n a.at a.r a.w l.b l.g.terms l.g.sum l.g.piece l.invariant
 
 mul-move-down : tie.Need-overflow-mul-move-down invariant-loop decreases-loop
 mul-move-down c = omega (arith, here c)
@@ -122,7 +122,7 @@ returns c =
     let a = e.args in
     let d = c.before.before.move_down in
     let u = o.before.before.before.move_up in
-    merge-done u.new.0 a.n a.at a.r a.w l.b l.g.terms l.g.sum l.g.piece l.invariant
+    merge_done u.new.0 a.n a.at a.r a.w l.b l.g.terms l.g.sum l.g.piece l.invariant
     (omega arith) d.new.0 a.b.now d.ensures e.requires u.ensures
 
 same_length : tie.Need-same-length invariant-loop decreases-loop

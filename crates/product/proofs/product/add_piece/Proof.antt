@@ -3,7 +3,7 @@ use Prim.Native.Nat.{◌+◌, ◌*◌, ◌≤◌}
 use native.Mathlib.Omega.{arith}
 use lib.ListN.{length}
 use Rattle.field.proofs.Laws.Ring.{ring}
-use Rattle.product.proofs.Lent.Pieces.{piece-count, piece-inserted, piece-asks, piece-merges, piece-merged}
+use Rattle.product.proofs.Lent.Pieces.{piece-count, piece-inserted, piece_asks, piece_merges, piece-merged}
 use borrow.Author.Rules.{rules}
 use Rattle.product.proofs.product.add_piece.Statement.{statement}
 use Rattle.product.proofs.product.add_piece.Tie as tie
@@ -57,7 +57,7 @@ part-product-row-end : tie.Need-slice-bounds-product-row-end
 part-product-row-end c = search rules
 
 product-row-requires-2 : tie.Need-product-row-requires-2
-product-row-requires-2 c κs = piece-asks c.before.before.before.before.before.before.before.requires (omega arith)
+product-row-requires-2 c κs = piece_asks c.before.before.before.before.before.before.before.requires (omega arith)
 
 add-merge-terms : tie.Need-overflow-add-merge-terms
 add-merge-terms c =
@@ -70,7 +70,7 @@ merge-terms-requires : tie.Need-merge-terms-requires
 merge-terms-requires c κs =
     let p = c.before.before.before.before.before in
     let o = p.before.before.before.before.before.before.before.before in
-    piece-merges o.requires (omega arith) o.args.m p.product-row2.ensures
+    piece_merges o.requires (omega arith) o.args.m p.product-row2.ensures
 
 same-length-3 : tie.Need-same-length-3
 same-length-3 c = search rules

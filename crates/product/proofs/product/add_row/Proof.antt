@@ -3,7 +3,7 @@ use mathlib.Core.Path.{◌≡◌}
 use Prim.Native.Nat.{◌+◌, ◌*◌, ◌-◌, ◌≤◌}
 use native.Mathlib.Omega.{arith}
 use lib.ListN.{length}
-use Rattle.product.proofs.Lent.Sums.{InSum, sum-start, sum_done, sum_room, sum-places, sum-asks, sum_more}
+use Rattle.product.proofs.Lent.Sums.{InSum, sum-start, sum_done, sum_room, sum-places, sum_asks, sum_more}
 use Rattle.product.proofs.Lent.Products.{row-wide}
 use borrow.Author.Rules.{rules}
 use Rattle.product.proofs.product.add_row.Statement.{statement}
@@ -67,7 +67,7 @@ part-add-piece-end c = omega (arith, here c.before)
 
 add-piece-requires : tie.Need-add-piece-requires invariant-loop decreases-loop
 add-piece-requires c κs =
-    sum-asks c.before.before.before.before.before.loop.invariant c.before.before.before.piece-size.ensures.1
+    sum_asks c.before.before.before.before.before.loop.invariant c.before.before.before.piece-size.ensures.1
 
 loop-less : tie.Need-loop-smaller invariant-loop decreases-loop
 loop-less c = search rules

@@ -6,7 +6,7 @@ use lib.ListN.{length}
 use Rattle.field.proofs.Laws.Ring.{ring}
 use Rattle.buffer.proofs.Lent.Strides.{row_count}
 use Rattle.product.proofs.Lent.Parts.{part}
-use Rattle.product.proofs.Lent.Factors.{product-lent, product_turned, lent-asks, turned-asks}
+use Rattle.product.proofs.Lent.Factors.{product_lent, product_turned, lent_asks, turned_asks}
 use borrow.Author.Rules.{rules}
 use Rattle.product.proofs.product.product.Statement.{statement}
 use Rattle.product.proofs.product.product.Tie as tie
@@ -37,8 +37,8 @@ product-rows-requires : tie.Need-product-rows-requires
 product-rows-requires c κs =
     let o = c.before.before.before.before.before.before.before in
     let a = o.args in
-    turned-asks (part a.b.now 0 (a.i * a.k * length a.t.now)) a.p.now a.i a.q.now a.k
-    a.t.now (lent-asks a.b.now a.p.now a.i a.q.now a.k a.t.now o.requires)
+    turned_asks (part a.b.now 0 (a.i * a.k * length a.t.now)) a.p.now a.i a.q.now a.k
+    a.t.now (lent_asks a.b.now a.p.now a.i a.q.now a.k a.t.now o.requires)
 
 same_length : tie.Need-same-length
 same_length c = search rules
@@ -52,7 +52,7 @@ returns c =
     let a = o.args in
     let r = c.before.before.before.before.product-rows in
     let w = length a.t.now in
-    product-lent a.m a.b.now a.p.now a.i a.q.now a.k w o.requires.some o.requires.room
+    product_lent a.m a.b.now a.p.now a.i a.q.now a.k w o.requires.some o.requires.room
     r.new.1.0 r.result
     (product_turned a.m (ring a.m (omega arith)) (part a.b.now 0 (a.i * a.k * w)) r.new.1.0
     a.p.now a.i a.q.now a.k w r.result r.ensures)
@@ -70,7 +70,7 @@ product-rows-requires-2 : tie.Need-product-rows-requires-2
 product-rows-requires-2 c κs =
     let o = c.before.before.before.before.before.before.before in
     let a = o.args in
-    lent-asks a.b.now a.p.now a.i a.q.now a.k a.t.now o.requires
+    lent_asks a.b.now a.p.now a.i a.q.now a.k a.t.now o.requires
 
 same-length-3 : tie.Need-same-length-3
 same-length-3 c = search rules
@@ -83,7 +83,7 @@ returns-2 c =
     let o = c.before.before.before.before.before.before.before.before.before.before.before.before in
     let a = o.args in
     let r = c.before.before.before.before.product-rows2 in
-    product-lent a.m a.b.now a.p.now a.i a.q.now a.k (length a.t.now) o.requires.some
+    product_lent a.m a.b.now a.p.now a.i a.q.now a.k (length a.t.now) o.requires.some
     o.requires.room r.new.1.0 r.result r.ensures
 
 pub product-spec : {M : Type 1} → statement M

@@ -3,7 +3,7 @@ use Prim.Native.Nat.{◌+◌, ◌-◌, ◌≤◌}
 use native.Mathlib.Omega.{arith}
 use Rattle.field.proofs.Laws.Ring.{ring}
 use lib.ListN.{length}
-use Rattle.product.proofs.Lent.Products.{InRow, row-start, row_done, fits, next-asks, row-asks, row_more}
+use Rattle.product.proofs.Lent.Products.{InRow, row-start, row_done, fits, next_asks, row_asks, row_more}
 use borrow.Author.Rules.{rules}
 use Rattle.product.proofs.product.product_row.Statement.{statement}
 use Rattle.product.proofs.product.product_row.Tie as tie
@@ -36,13 +36,13 @@ part-term-product-end : tie.Need-slice-bounds-term-product-end invariant-loop de
 part-term-product-end c = omega (arith, here c)
 
 term-product-requires : tie.Need-term-product-requires invariant-loop decreases-loop
-term-product-requires c κs = next-asks c.before.before.before.loop.invariant (omega arith)
+term-product-requires c κs = next_asks c.before.before.before.loop.invariant (omega arith)
 
 insert-term-requires : tie.Need-insert-term-requires invariant-loop decreases-loop
 insert-term-requires c κs =
     let l = c.before.before.before.before.before.before.before.before.loop in
     let p = c.before.before.before.before.term-product in
-    row-asks l.invariant (omega arith) p.ensures c.before.before.before.t.given
+    row_asks l.invariant (omega arith) p.ensures c.before.before.before.t.given
 
 add-j : tie.Need-overflow-add-j invariant-loop decreases-loop
 add-j c = search rules

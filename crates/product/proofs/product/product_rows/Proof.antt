@@ -2,8 +2,8 @@
 use native.Mathlib.Omega.{arith}
 use lib.ListN.{length}
 use Rattle.buffer.proofs.Lent.Strides.{Back}
-use Rattle.product.proofs.Lent.Factors.{InProduct, product-start, product-done, product-back, product-asks}
-use Rattle.product.proofs.Lent.Factors.{product-more}
+use Rattle.product.proofs.Lent.Factors.{InProduct, product_start, product_done, product_back, product_asks}
+use Rattle.product.proofs.Lent.Factors.{product_more}
 use borrow.Author.Rules.{rules}
 use Rattle.product.proofs.product.product_rows.Statement.{statement}
 use Rattle.product.proofs.product.product_rows.Tie as tie
@@ -18,13 +18,13 @@ decreases-loop m b₀ p i q k t₀ w n₀ j₀ at₀ b t n j at = j
 here : (c : tie.In-loop invariant-loop decreases-loop) →
     let a = c.before.before.before.before.before.before.args in
     Back c.before.loop.j (length a.t.now) c.before.loop.at (length a.p.now)
-here c = product-back c.before.loop.invariant (omega arith)
+here c = product_back c.before.loop.invariant (omega arith)
 
 mul_at : tie.Need-overflow-mul-at invariant-loop decreases-loop
 mul_at c = omega (arith, c.before.before.before.before.requires.left)
 
 loop-holds : tie.Need-loop-init invariant-loop decreases-loop
-loop-holds c = product-start c.before.before.before.before.requires
+loop-holds c = product_start c.before.before.before.before.requires
 
 sub-j : tie.Need-overflow-sub-j invariant-loop decreases-loop
 sub-j c = search rules
@@ -45,7 +45,7 @@ part-add-row-end : tie.Need-slice-bounds-add-row-end invariant-loop decreases-lo
 part-add-row-end c = omega (arith, here c.before)
 
 add-row-requires : tie.Need-add-row-requires invariant-loop decreases-loop
-add-row-requires c κs = product-asks c.before.before.before.before.loop.invariant (omega arith)
+add-row-requires c κs = product_asks c.before.before.before.before.loop.invariant (omega arith)
 
 loop-less : tie.Need-loop-smaller invariant-loop decreases-loop
 loop-less c = search rules
@@ -53,7 +53,7 @@ loop-less c = search rules
 loop-again : tie.Need-loop-preserved invariant-loop decreases-loop
 loop-again c =
     let l = c.before.before.before.before.before.before.before.before.before.loop in
-    product-more l.invariant (omega arith) c.before.t.given c.before.before.before.before.add_row.ensures
+    product_more l.invariant (omega arith) c.before.t.given c.before.before.before.before.add_row.ensures
 
 same_length : tie.Need-same-length invariant-loop decreases-loop
 same_length c = c.before.loop.invariant.holds.size
@@ -62,7 +62,7 @@ same-length-2 : tie.Need-same-length-2 invariant-loop decreases-loop
 same-length-2 c = c.before.loop.invariant.spare
 
 returns : tie.Need-returns invariant-loop decreases-loop
-returns c = product-done c.before.loop.invariant (omega arith)
+returns c = product_done c.before.loop.invariant (omega arith)
 
 pub product-rows-spec : {M : Type 1} → statement M
 product-rows-spec =

@@ -2,16 +2,16 @@
 use mathlib.Core.Bool.{◌&&◌}
 use mathlib.Core.Path.{◌≡◌, ap, sym, ◌∙◌}
 use Rattle.grammar.specs.declared.record.Rec.{Rec}
-use Rattle.grammar.specs.Line.{piecesIn}
-use Rattle.reader.specs.Handed.{hasFields}
+use Rattle.grammar.specs.Line.{pieces_in}
+use Rattle.reader.specs.Handed.{has_fields}
 use borrow.Author.Rules.{rules}
 use Rattle.reader.proofs.formed.has_fields.Statement.{statement}
 use Rattle.reader.proofs.formed.has_fields.Tie as tie
 
 -- the case q of the record tells which fields there are
 told : (c : tie.Start) {q : Rec} → c.args.r ≡ q
-    → let ps = piecesIn c.args.s.now c.args.l in hasFields ps q ≡ hasFields ps c.args.r
-told c e = ap (hasFields (piecesIn c.args.s.now c.args.l)) (sym e)
+    → let ps = pieces_in c.args.s.now c.args.l in has_fields ps q ≡ has_fields ps c.args.r
+told c e = ap (has_fields (pieces_in c.args.s.now c.args.l)) (sym e)
 
 enum_told : tie.Need-enum-told
 enum_told c = search rules

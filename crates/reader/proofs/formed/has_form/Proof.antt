@@ -1,7 +1,7 @@
 -- Both operands were read, or one was not. Assumes nothing.
 use mathlib.Core.Bool.{◌&&◌}
 use mathlib.Core.Path.{ap, sym, ◌∙◌}
-use Rattle.reader.specs.Handed.{hasForm}
+use Rattle.reader.specs.Handed.{has_form}
 use borrow.Author.Rules.{rules}
 use Rattle.reader.proofs.formed.has_form.Statement.{statement}
 use Rattle.reader.proofs.formed.has_form.Tie as tie
@@ -39,12 +39,12 @@ returns c = search rules
 returns-2 : tie.Need-returns-2
 returns-2 c =
     (λ i. c.before.has-term2.ensures i && c.has-term3.ensures i)
-    ∙ ap hasForm (sym c.before.before.before.f2.given.1)
+    ∙ ap has_form (sym c.before.before.before.f2.given.1)
 
 returns-3 : tie.Need-returns-3
 returns-3 c =
     (λ i. c.before.has-name.ensures i && c.has-term4.ensures i)
-    ∙ ap hasForm (sym c.before.before.before.f3.given.1)
+    ∙ ap has_form (sym c.before.before.before.f3.given.1)
 
 returns-4 : tie.Need-returns-4
 returns-4 c = search rules

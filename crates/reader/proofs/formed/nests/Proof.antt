@@ -8,9 +8,9 @@ use denote.Enum.Declared.{tag_of}
 use Rattle.grammar.specs.declared.record.Rec.{Rec}
 use Rattle.grammar.specs.declared.record.Rec.TheVariants.{Bad, Shares, Map, Input, Origin, Assign, Let, Result}
 use Rattle.grammar.specs.declared.record.Rec.TheVariants.{Masked, Output}
-use Rattle.grammar.specs.Line.{piecesIn}
+use Rattle.grammar.specs.Line.{pieces_in}
 use Rattle.grammar.specs.contracts.record.Rec as R
-use Rattle.reader.specs.Handed.{nestsIn}
+use Rattle.reader.specs.Handed.{nests_in}
 use borrow.Author.Rules.{rules}
 use Rattle.reader.proofs.formed.nests.Statement.{statement}
 use Rattle.reader.proofs.formed.nests.Tie as tie
@@ -20,7 +20,7 @@ abbrev others : List ℕ
 others = 0 ∷ 1 ∷ 2 ∷ 3 ∷ 4 ∷ 5 ∷ 7 ∷ 8 ∷ 9 ∷ []
 
 -- none of them nests
-flat : (ps : List (List ℕ)) (r : Rec) → OneOf others (tag_of R.the_type r) → false ≡ nestsIn ps r
+flat : (ps : List (List ℕ)) (r : Rec) → OneOf others (tag_of R.the_type r) → false ≡ nests_in ps r
 flat ps Bad e = refl
 flat ps (Shares k) e = refl
 flat ps (Map n c) e = refl
@@ -41,10 +41,10 @@ too-deep-requires c κs = search rules
 returns : tie.Need-returns
 returns c =
     let a = c.before.before.before.before.before.args in
-    c.too-deep.ensures ∙ ap (nestsIn (piecesIn a.s.now a.l)) (sym c.before.before.r.given.1)
+    c.too-deep.ensures ∙ ap (nests_in (pieces_in a.s.now a.l)) (sym c.before.before.r.given.1)
 
 returns-2 : tie.Need-returns-2
-returns-2 c = let a = c.before.before.args in flat (piecesIn a.s.now a.l) a.r c.match.keys2
+returns-2 c = let a = c.before.before.args in flat (pieces_in a.s.now a.l) a.r c.match.keys2
 
 pub nests-spec : {M : Type 1} → statement M
 nests-spec = tie.close (tie.spec enum-known-r too-deep-requires returns returns-2)

@@ -2,9 +2,9 @@
 use native.Mathlib.Omega.{arith}
 use mathlib.Core.Path.{◌≡◌, sym, ◌∙◌}
 use Rattle.reader.specs.declared.cursor.Ahead.{Ahead}
-use Rattle.reader.specs.Reader.{lastGiven, aheadGiven, behindOf, placeBehind}
+use Rattle.reader.specs.Reader.{last_given, ahead_given, behind_of, place_behind}
 use Rattle.reader.proofs.Laws.Ahead.{look-unended}
-use Rattle.reader.proofs.Laws.Handed.{placed-in, behind-line, behind-told}
+use Rattle.reader.proofs.Laws.Handed.{placed_in, behind-line, behind-told}
 use borrow.Author.Rules.{rules}
 use Rattle.reader.proofs.handed.behind.Statement.{statement}
 use Rattle.reader.proofs.handed.behind.Tie as tie
@@ -12,7 +12,7 @@ use Rattle.reader.proofs.handed.behind.Tie as tie
 -- the answer x of `look` tells the place behind what is handed out
 told : (c : tie.After-look) {x : Ahead} → c.look.result ≡ x
     → let a = c.before.before.before.args in let p = c.before.placed.result in
-    behindOf p (aheadGiven a.s.now p x) ≡ placeBehind a.s.now a.at a.line
+    behind_of p (ahead_given a.s.now p x) ≡ place_behind a.s.now a.at a.line
 told c e =
     let a = c.before.before.before.args in
     let P = c.before.placed in
@@ -22,7 +22,7 @@ placed-requires : tie.Need-placed-requires
 placed-requires c κs = search rules
 
 look-requires : tie.Need-look-requires
-look-requires c κs = placed-in _ _ _ _ c.placed.ensures
+look-requires c κs = placed_in _ _ _ _ c.placed.ensures
 
 enum-known-l : tie.Need-enum-known-l
 enum-known-l c = search rules
@@ -39,7 +39,7 @@ add-t11 c =
       fits = omega (
         arith,
         (look-unended d.args.s.now P.result _ a).1,
-        (placed-in _ _ _ _ P.ensures).1,
+        (placed_in _ _ _ _ P.ensures).1,
         d.well-formed.0.0,
       );
     }
@@ -54,7 +54,7 @@ returns c =
     ∙ told b c.before.l.given.1
 
 returns-2 : tie.Need-returns-2
-unfolding lastGiven
+unfolding last_given
 returns-2 c = told c.before.before.before.before c.before.before.l2.given.1
 
 returns-3 : tie.Need-returns-3

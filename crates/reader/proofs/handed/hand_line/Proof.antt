@@ -3,10 +3,10 @@ use mathlib.Core.Bool.{true}
 use mathlib.Core.Option.{some}
 use mathlib.Core.Path.{◌≡◌, ap, sym, ◌∙◌}
 use Rattle.tokens.specs.Ascii.{all, allowed}
-use Rattle.grammar.specs.Line.{fieldIn}
-use Rattle.tokens.specs.Word.{wordOf}
+use Rattle.grammar.specs.Line.{field_in}
+use Rattle.tokens.specs.Word.{word_of}
 use Rattle.reader.specs.Reader.{bytes_of}
-use Rattle.reader.proofs.Laws.Handed.{line-foul, line-record, line-deep, line-unformed}
+use Rattle.reader.proofs.Laws.Handed.{line_foul, line_record, line-deep, line-unformed}
 use borrow.Author.Rules.{rules}
 use Rattle.reader.proofs.handed.hand_line.Statement.{statement}
 use Rattle.reader.proofs.handed.hand_line.Tie as tie
@@ -44,10 +44,10 @@ clean c =
 -- the word of the line
 told : (c : tie.After-has-fields)
     → let d = c.before.before.before.before.before.before.before.before.before in
-    c.before.before.word_of.result ≡ wordOf (fieldIn d.args.s.now d.args.l 0)
+    c.before.before.word_of.result ≡ word_of (field_in d.args.s.now d.args.l 0)
 told c =
     c.before.before.word_of.ensures
-    ∙ ap wordOf (c.before.before.before.part2.ensures ∙ c.before.before.before.before.field.ensures.holds)
+    ∙ ap word_of (c.before.before.before.part2.ensures ∙ c.before.before.before.before.field.ensures.holds)
 
 returns : tie.Need-returns
 returns c =
@@ -61,7 +61,7 @@ nests-requires c κs = search rules
 returns-2 : tie.Need-returns-2
 returns-2 c =
     let d = c.before.before.before in
-    line-record _ _ _ (clean d) _ (told d) _ d.before.«record».ensures
+    line_record _ _ _ (clean d) _ (told d) _ d.before.«record».ensures
     (sym c.before.before.if2.true ∙ d.has-fields.ensures) (sym c.if3.false ∙ c.before.nests.ensures)
 
 returns-3 : tie.Need-returns-3
@@ -71,7 +71,7 @@ returns-3 c =
 
 returns-4 : tie.Need-returns-4
 returns-4 c =
-    ap some (line-foul _ _ _
+    ap some (line_foul _ _ _
     (sym (c.before.all-allowed.ensures ∙ ap (all allowed) c.before.before.part.ensures) ∙ c.if1.false))
 
 pub hand-line-spec : {M : Type 1} → statement M

@@ -4,23 +4,23 @@ use mathlib.Core.Option.{some}
 use mathlib.Core.Path.{◌≡◌, ap, sym, ◌∙◌}
 use Rattle.grammar.specs.declared.line.Line.{Line}
 use Rattle.reader.specs.declared.cursor.Ahead.{Ahead}
-use Rattle.reader.specs.Cursor.{lookAt}
-use Rattle.reader.specs.Reader.{aheadGiven, recordAhead}
+use Rattle.reader.specs.Cursor.{look_at}
+use Rattle.reader.specs.Reader.{ahead_given, record_ahead}
 use Rattle.reader.proofs.Laws.Ahead.{look-line, look-unended, end_ge}
-use Rattle.reader.proofs.Laws.Handed.{placed-in, ahead-told}
+use Rattle.reader.proofs.Laws.Handed.{placed_in, ahead-told}
 use borrow.Author.Rules.{rules}
 use Rattle.reader.proofs.handed.hand_out.Statement.{statement}
 use Rattle.reader.proofs.handed.hand_out.Tie as tie
 
 -- the answer x of `look` is the line ahead
 seen : (c : tie.After-look) {x : Ahead} → c.look.result ≡ x
-    → x ≡ lookAt c.before.before.before.args.s.now c.before.placed.result
+    → x ≡ look_at c.before.before.before.args.s.now c.before.placed.result
 seen c e = sym e ∙ c.look.ensures
 
 -- it tells what is handed out
 told : (c : tie.After-look) {x : Ahead} → c.look.result ≡ x
     → let a = c.before.before.before.args in
-    some (aheadGiven a.s.now c.before.placed.result x) ≡ some (recordAhead a.s.now a.at a.line)
+    some (ahead_given a.s.now c.before.placed.result x) ≡ some (record_ahead a.s.now a.at a.line)
 told c e =
     let a = c.before.before.before.args in
     let P = c.before.placed in
@@ -30,7 +30,7 @@ placed-requires : tie.Need-placed-requires
 placed-requires c κs = search rules
 
 look-requires : tie.Need-look-requires
-look-requires c κs = placed-in _ _ _ _ c.placed.ensures
+look-requires c κs = placed_in _ _ _ _ c.placed.ensures
 
 enum-known-l : tie.Need-enum-known-l
 enum-known-l c = search rules
@@ -52,7 +52,7 @@ hand-last-requires c κs =
     let s = c.before.before.before.before.before.before.args.s.now in
     let P = c.before.before.before.before.placed in
     let A = look-unended s P.result _ (seen c.before.before.before c.before.l2.given.1) in
-    omega (arith, A.1, (placed-in _ _ _ _ P.ensures).1)
+    omega (arith, A.1, (placed_in _ _ _ _ P.ensures).1)
 
 enum_told : tie.Need-enum-told
 enum_told c = search rules

@@ -1,4 +1,4 @@
--- A walk of the code: the reader is taken apart, `behind` is called on its text and place (`calls-on`), and a reader is
+-- A walk of the code: the reader is taken apart, `behind` is called on its text and place (`calls_on`), and a reader is
 -- made of the text and the place that came back. Assumes nothing.
 use mathlib.Core.Path.{◌≡◌, refl, ap}
 use Prim.Native.Nat.{◌<◌, ◌^◌}
@@ -24,13 +24,13 @@ use denote.Struct.Laws as LL
 use denote.Struct.Rest.{own_put}
 use denote.Triple.Statement.{Triple}
 use denote.Triple.Table.{cited}
-use Rattle.reader.specs.Handed.{movedOn}
-use Rattle.reader.specs.Reader.{placeBehind}
+use Rattle.reader.specs.Handed.{moved_on}
+use Rattle.reader.specs.Reader.{place_behind}
 use Rattle.reader.specs.declared.reader.Reader.{Reader}
 use Rattle.reader.specs.declared.cursor.Cursor.{Cursor}
 use Rattle.reader.proofs.Laws.Held.{B, mach, Typed, Own, fields, D, L, reader, typed, twice}
 use Rattle.reader.proofs.Laws.Taken.{Entry, Post, leaves, walked_from}
-use Rattle.reader.proofs.Laws.Called.{Callee, field-of, calls-on}
+use Rattle.reader.proofs.Laws.Called.{Callee, field_of_lem, calls_on}
 use Rattle.reader.specs.contracts.cursor.Cursor as S
 use Rattle.reader.proofs.cursor.Cursor.TheLaws as S'
 use Rattle.reader.proofs.handed.behind.Symbol as behind
@@ -41,10 +41,10 @@ use Rattle.reader.proofs.reader.moved.Code as code
 
 -- what is said of the place that came back, and of the result
 abbrev Found : Reader → Cursor → Type 0
-Found d r = r ≡ placeBehind d.text.now d.at d.line
+Found d r = r ≡ place_behind d.text.now d.at d.line
 
 abbrev Says : Reader → Reader → Type 0
-Says d r = r ≡ movedOn d
+Says d r = r ≡ moved_on d
 
 -- the reader at place r of the same text
 abbrev at_place : Reader → Cursor → Reader
@@ -78,10 +78,10 @@ module _ {M : Type 1} {𝓤 : Ura M} (𝓛 : Logic 𝓤) where
       qed 𝓛 (raw (Entry reader 𝓛 κ q d) ∷ []) ∵ enter ! C Λ code.function (mach d ∷ []) _ $
       alloc1 ! (λ l₀. alloc1 ! (λ l₁. alloc1 ! (λ l₂. alloc1 ! (λ l₃. alloc1 ! (λ l₄. alloc1 ! (λ l₅. alloc1 ! (λ l₆.
       alloc0 ! $ params1 ! $ pass1 ! (init ! 10 refl wt) $ pass0 ! $
-      assigns ! (field-of ! 10 refl (sub ! 0 refl (whole !))) (from ! (stop !)) (init ! 6 refl (tt, wt.1.0)) $
-      assigns ! (field-of ! 10 refl (sub ! 1 refl (whole !))) (from ! (stop !)) (init ! 4 refl (tt, wt.1.1.0)) $
-      assigns ! (field-of ! 10 refl (sub ! 2 refl (whole !))) (from ! (stop !)) (init ! 2 refl (tt, wt.1.1.1.0)) $
-      move ! (14 ∷ []) $ calls-on S.the_row Found ! fm known κ q d wt
+      assigns ! (field_of_lem ! 10 refl (sub ! 0 refl (whole !))) (from ! (stop !)) (init ! 6 refl (tt, wt.1.0)) $
+      assigns ! (field_of_lem ! 10 refl (sub ! 1 refl (whole !))) (from ! (stop !)) (init ! 4 refl (tt, wt.1.1.0)) $
+      assigns ! (field_of_lem ! 10 refl (sub ! 2 refl (whole !))) (from ! (stop !)) (init ! 2 refl (tt, wt.1.1.1.0)) $
+      move ! (14 ∷ []) $ calls_on S.the_row Found ! fm known κ q d wt
       (and_then ! (load ! (from ! (stop !)) (look ! 8 refl))
       (and_then ! (load ! (from ! (stop !)) (look ! 6 refl))
       (and_then ! (load ! (from ! (stop !)) (look ! 4 refl)) (no_more !)))) (λ u r e is.
@@ -89,7 +89,7 @@ module _ {M : Type 1} {𝓤 : Ura M} (𝓛 : Logic 𝓤) where
       land ! (from ! (stop !)) (init ! 11 refl ((LL.lawful S.the_type S'.the_laws 𝓛).typed r _ is).0) $
       rewrite ! 11 (λ (x : Val). ‵ (fat full_share S'.mir l₂ 0 x))
       (ap only (LL.tells S.the_type S'.the_laws r (u ∷ []) is)) refl $
-      assigns ! (field-of ! 13 refl (sub ! 0 refl (whole !))) (from ! (stop !)) (init ! 3 refl (tt, wt.1.0)) $
+      assigns ! (field_of_lem ! 13 refl (sub ! 0 refl (whole !))) (from ! (stop !)) (init ! 3 refl (tt, wt.1.0)) $
       assigns ! (agg ! (and_then ! (load ! (from ! (stop !)) (look ! 3 refl))
       (and_then ! (load ! (from ! (fld ! refl (stop !))) (look_in ! 11 (sub ! 0 refl (whole !))))
       (and_then ! (load ! (from ! (fld ! refl (stop !))) (look_in ! 11 (sub ! 1 refl (whole !)))) (no_more !)))))

@@ -4,7 +4,7 @@ use native.Mathlib.Omega.{arith}
 use Prim.Native.Nat.{◌-◌}
 use Rattle.field.specs.Field.{times, power}
 use Rattle.field.specs.Maps.{list_of}
-use Rattle.search.proofs.Lent.Putting.{InPut, put-start, put-asks, put-more, put-done}
+use Rattle.search.proofs.Lent.Putting.{InPut, put-start, put_asks, put-more, put-done}
 use Rattle.search.proofs.put.put.Statement.{statement}
 use Rattle.search.proofs.put.put.Tie as tie
 
@@ -27,7 +27,7 @@ put-step-requires : tie.Need-put-step-requires invariant-loop decreases-loop
 put-step-requires c κs =
     let l = c.before.before.before.loop in
     let a = c.before.before.before.before.before.before.args in
-    put-asks a.m a.b.now a.k a.w a.i a.a l.b l.g.terms l.g.sum l.j l.invariant.1
+    put_asks a.m a.b.now a.k a.w a.i a.a l.b l.g.terms l.g.sum l.j l.invariant.1
     (omega arith)
 
 add-j : tie.Need-overflow-add-j invariant-loop decreases-loop

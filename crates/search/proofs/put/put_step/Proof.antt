@@ -8,9 +8,9 @@ use Rattle.field.specs.Field.{power, times}
 use Rattle.field.specs.Maps.{list_of}
 use Rattle.field.specs.Xor as X
 use Rattle.field.specs.Xor.{◌⊕◌}
-use Rattle.buffer.proofs.Lent.Strides.{row-end, pos-of-ne}
+use Rattle.buffer.proofs.Lent.Strides.{row_end, pos_of_ne}
 use Rattle.search.proofs.Lent.Groups.{gathered}
-use Rattle.search.proofs.Lent.Passing.{sum-here, step-on, step-none, step-write}
+use Rattle.search.proofs.Lent.Passing.{sum-here, step_on, step-none, step_write}
 use borrow.Author.Rules.{rules}
 use Rattle.search.proofs.put.put_step.Statement.{statement}
 use Rattle.search.proofs.put.put_step.Tie as tie
@@ -21,7 +21,7 @@ here : (c : tie.Start) → (suc c.args.i < c.args.w)
 here c =
     let a = c.args in
     let h = c.requires in
-    (h.inside, omega (arith, row-end a.j a.k a.w h.next, h.source))
+    (h.inside, omega (arith, row_end a.j a.k a.w h.next, h.source))
 
 -- the sum with the value of term j, by the table of the powers of x
 sum-now : (c : tie.After-times) →
@@ -77,7 +77,7 @@ returns c =
     let a = e.before.before.before.before.before.args in
     let h = e.before.before.before.before.before.requires in
     λ x t.
-    step-on a.m a.b.now a.k a.w a.i x a.j a.g.terms a.g.sum h
+    step_on a.m a.b.now a.k a.w a.i x a.j a.g.terms a.g.sum h
     (a.g.sum ⊕ e.times.result) (sum-now e x t) (sym c.if1.true ∙ c.before.same-group.ensures)
 
 same-length-2 : tie.Need-same-length-2
@@ -98,13 +98,13 @@ mul-write-group : tie.Need-overflow-mul-write-group
 mul-write-group c =
     let a = c.before.before.before.before.before.before.before.before.before.before.before.before.args in
     let h = c.before.before.before.before.before.before.before.before.before.before.before.before.requires in
-    omega (arith, row-end a.j a.k a.w h.next, h.source, mul-le-mul_right a.w h.written)
+    omega (arith, row_end a.j a.k a.w h.next, h.source, mul-le-mul_right a.w h.written)
 
 write-group-requires : tie.Need-write-group-requires
 write-group-requires c κs =
     let a = c.before.before.before.before.before.before.before.before.before.before.before.before.args in
     let h = c.before.before.before.before.before.before.before.before.before.before.before.before.requires in
-    (h.inside, mul-le-mul_right a.w h.written, omega (arith, row-end a.j a.k a.w h.next, h.source))
+    (h.inside, mul-le-mul_right a.w h.written, omega (arith, row_end a.j a.k a.w h.next, h.source))
 
 add-t13 : tie.Need-overflow-add-t13
 add-t13 c = search rules
@@ -121,9 +121,9 @@ returns-3 c =
     let h = e.before.before.before.before.before.requires in
     let g' = c.before.before.before.write-group in
     λ x t.
-    step-write a.m a.b.now a.k a.w a.i x a.j a.g.terms a.g.sum h
+    step_write a.m a.b.now a.k a.w a.i x a.j a.g.terms a.g.sum h
     (a.g.sum ⊕ e.times.result) (sum-now e x t) g'.new.0
-    (sym o.before.if1.false ∙ o.before.before.same-group.ensures) (pos-of-ne _ o.if2.false) g'.ensures
+    (sym o.before.if1.false ∙ o.before.before.same-group.ensures) (pos_of_ne _ o.if2.false) g'.ensures
 
 pub put-step-spec : {M : Type 1} → statement M
 put-step-spec =

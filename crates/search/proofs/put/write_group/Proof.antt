@@ -1,7 +1,7 @@
 -- `search::put::write_group` meets its contract. Assumes nothing.
 use native.Mathlib.Omega.{arith}
 use lib.ListN.{length-set}
-use Rattle.search.proofs.Lent.Groups.{group-written}
+use Rattle.search.proofs.Lent.Groups.{group_written}
 use borrow.Author.Rules.{rules}
 use Rattle.search.proofs.put.write_group.Statement.{statement}
 use Rattle.search.proofs.put.write_group.Tie as tie
@@ -39,7 +39,7 @@ returns c =
     let a = c.before.before.before.before.before.args in
     let r = c.before.before.before.before.before.requires in
     let u = c.before.before.move_down in
-    group-written a.b.now u.new.0 a.at a.to a.w a.i a.c r.0 r.1 r.2
+    group_written a.b.now u.new.0 a.at a.to a.w a.i a.c r.0 r.1 r.2
     u.ensures
 
 pub write-group-spec : {M : Type 1} → statement M

@@ -2,8 +2,8 @@
 -- bytes. Assumes nothing.
 use native.Mathlib.Omega.{arith}
 use Prim.Native.Nat.{◌+◌, ◌-◌}
-use Rattle.search.proofs.Lent.Searching.{Trying, trying_start, trying-bound, trying-asks, trying-more}
-use Rattle.search.proofs.Lent.Searching.{Finding, finding-start, finding-more, finding-done}
+use Rattle.search.proofs.Lent.Searching.{Trying, trying_start, trying_bound, trying_asks, trying_more}
+use Rattle.search.proofs.Lent.Searching.{Finding, finding_start, finding_more, finding_done}
 use Rattle.search.proofs.search.search.Statement.{statement}
 use Rattle.search.proofs.search.search.Tie as tie
 
@@ -28,10 +28,10 @@ next_here : (c : tie.Else1 invariant-loop2 decreases-loop2 invariant-loop decrea
     Trying a.m a.w l.i l.b l.left l.tried s.new.1.0 d.left (d.tried + 1) (d.a + 1)
 next_here c =
     let s = c.before.before.before.put in
-    trying-more c.before.before.before.before.before.loop2.invariant s.ensures (omega arith)
+    trying_more c.before.before.before.before.before.loop2.invariant s.ensures (omega arith)
 
 loop-holds : tie.Need-loop-init invariant-loop2 decreases-loop2 invariant-loop decreases-loop
-loop-holds c = finding-start c.before.before.requires
+loop-holds c = finding_start c.before.before.requires
 
 add-loop : tie.Need-overflow-add-loop invariant-loop2 decreases-loop2 invariant-loop decreases-loop
 add-loop c = omega (arith, c.loop.invariant.most, c.loop.invariant.asked.few)
@@ -43,16 +43,16 @@ add-tried : tie.Need-overflow-add-tried invariant-loop2 decreases-loop2 invarian
 add-tried c =
     let h = c.before.before.loop.invariant in
     let d = c.loop2 in
-    omega (arith, h.bound, h.most, h.asked.few, d.invariant.count, trying-bound d.invariant)
+    omega (arith, h.bound, h.most, h.asked.few, d.invariant.count, trying_bound d.invariant)
 
 put-requires : tie.Need-put-requires invariant-loop2 decreases-loop2 invariant-loop decreases-loop
-put-requires c κs = trying-asks c.before.loop2.invariant
+put-requires c κs = trying_asks c.before.loop2.invariant
 
 add_a : tie.Need-overflow-add-a invariant-loop2 decreases-loop2 invariant-loop decreases-loop
-add_a c = omega (arith, trying-bound (next_here c))
+add_a c = omega (arith, trying_bound (next_here c))
 
 loop2-less : tie.Need-loop2-smaller invariant-loop2 decreases-loop2 invariant-loop decreases-loop
-loop2-less c = omega (arith, trying-bound (next_here c))
+loop2-less c = omega (arith, trying_bound (next_here c))
 
 loop2-again : tie.Need-loop2-preserved invariant-loop2 decreases-loop2 invariant-loop decreases-loop
 loop2-again c = next_here c
@@ -73,7 +73,7 @@ loop-again c =
     let l = c.before.before.before.before.before.before.before.loop in
     let d = c.before.before.before.before.before.loop2 in
     let s = c.before.before.before.put in
-    finding-more l.invariant d.invariant s.ensures (omega arith)
+    finding_more l.invariant d.invariant s.ensures (omega arith)
 
 same_length : tie.Need-same-length invariant-loop2 decreases-loop2 invariant-loop decreases-loop
 same_length c = c.before.loop.invariant.size
@@ -82,7 +82,7 @@ same-length-2 : tie.Need-same-length-2 invariant-loop2 decreases-loop2 invariant
 same-length-2 c = c.before.loop.invariant.listed
 
 returns : tie.Need-returns invariant-loop2 decreases-loop2 invariant-loop decreases-loop
-returns c = finding-done c.before.loop.invariant (omega arith)
+returns c = finding_done c.before.loop.invariant (omega arith)
 
 pub search-spec : {M : Type 1} → statement M
 search-spec =

@@ -3,7 +3,7 @@ use borrow.Author.Rules.{rules}
 use native.Mathlib.Omega.{arith}
 use Prim.Native.Nat.{◌-◌}
 use lib.ListN.{length}
-use Rattle.survey.proofs.Laws.Filling.{Clearing, clearing-none, clearing-more, cleared-all}
+use Rattle.survey.proofs.Laws.Filling.{Clearing, clearing_none, clearing_more, cleared-all}
 use Rattle.survey.proofs.table.clear.Statement.{statement}
 use Rattle.survey.proofs.table.clear.Tie as tie
 
@@ -14,7 +14,7 @@ abbrev decreases-loop : tie.decreases-loop
 decreases-loop b₀ i₀ b i = length b₀ - i
 
 loop-holds : tie.Need-loop-init invariant-loop decreases-loop
-loop-holds c = clearing-none c.args.b.now
+loop-holds c = clearing_none c.args.b.now
 
 slice-write-b : tie.Need-slice-write-b invariant-loop decreases-loop
 slice-write-b c = search rules
@@ -28,7 +28,7 @@ loop-less c = search rules
 loop-again : tie.Need-loop-preserved invariant-loop decreases-loop
 loop-again c =
     let a = c.before.before.args in
-    clearing-more a.b.now c.before.loop.b c.before.loop.i (omega arith) c.before.loop.invariant
+    clearing_more a.b.now c.before.loop.b c.before.loop.i (omega arith) c.before.loop.invariant
 
 same_length : tie.Need-same-length invariant-loop decreases-loop
 same_length c = c.before.loop.invariant.size

@@ -6,7 +6,7 @@ use Prim.Native.Nat.{◌≤◌, ◌-◌}
 use lib.ListN.{take}
 use Rattle.rules.specs.declared.types.AffineMap.{AffineMap}
 use Rattle.survey.specs.Table.{Constants}
-use Rattle.survey.proofs.Laws.Filling.{constants-none, constants-more, map_next}
+use Rattle.survey.proofs.Laws.Filling.{constants_none, constants_more, map_next}
 use Rattle.survey.proofs.table.list_constants.Statement.{statement}
 use Rattle.survey.proofs.table.list_constants.Tie as tie
 
@@ -17,7 +17,7 @@ abbrev decreases-loop : tie.decreases-loop
 decreases-loop count maps constants₀ f₀ constants f = count - f
 
 loop-holds : tie.Need-loop-init invariant-loop decreases-loop
-loop-holds c = (omega arith, constants-none c.args.t1)
+loop-holds c = (omega arith, constants_none c.args.t1)
 
 mul-map : tie.Need-overflow-mul-map invariant-loop decreases-loop
 mul-map c = search rules
@@ -39,7 +39,7 @@ loop-again c =
     let a = c.before.before.before.args in
     let loop = c.before.before.loop in (
       omega arith,
-      constants-more a.t1 loop.constants loop.f _ (omega arith)
+      constants_more a.t1 loop.constants loop.f _ (omega arith)
           (ap (λ (x : AffineMap). x.constant) (map_next a.t1 loop.f _ (search rules))) loop.invariant.1,
     )
 

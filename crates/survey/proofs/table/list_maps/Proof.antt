@@ -4,7 +4,7 @@ use borrow.Author.Rules.{rules}
 use native.Mathlib.Omega.{arith}
 use Prim.Native.Nat.{◌≤◌, ◌-◌}
 use lib.ListN.{take}
-use Rattle.field.specs.Maps.{coefficientsOf}
+use Rattle.field.specs.Maps.{coefficients_of}
 use Rattle.rules.specs.declared.types.AffineMap.{AffineMap}
 use Rattle.survey.specs.Table.{Listed}
 use Rattle.survey.proofs.Laws.Filling.{listed-none, listed_more, map_next}
@@ -48,7 +48,7 @@ loop-again c =
       omega arith,
       listed_more a.m a.t2 loop.lists loop.f c.coefficients.result (omega arith)
           (c.coefficients.ensures
-          ∙ ap (λ (x : AffineMap). coefficientsOf a.m x.columns) (map_next a.t2 loop.f _ (search rules)))
+          ∙ ap (λ (x : AffineMap). coefficients_of a.m x.columns) (map_next a.t2 loop.f _ (search rules)))
           loop.invariant.1,
     )
 

@@ -4,18 +4,18 @@ use mathlib.Core.Path.{subst, ◌≡◌, refl, sym, ◌∙◌}
 use borrow.Author.Rules.{rules}
 use native.Mathlib.Omega.{arith}
 use Prim.Native.Nat.{◌+◌, ◌-◌, ◌≤◌, ◌<◌}
-use Rattle.text.specs.Routine.{mapsOf}
-use Rattle.values.specs.Raw.{mostStanding}
+use Rattle.text.specs.Routine.{maps_of}
+use Rattle.values.specs.Raw.{most_standing}
 use Rattle.values.specs.Shelf.{shelved}
 use Rattle.survey.specs.Walk.{Holds, Walked}
-use Rattle.survey.proofs.Laws.Walks.{holds-start, find-asked, raw-asked, walk-over, form-asked, shelf-room}
+use Rattle.survey.proofs.Laws.Walks.{holds-start, find_asked, raw-asked, walk-over, form-asked, shelf_room}
 use Rattle.survey.proofs.Laws.Walks.{holds_more, walk-done}
 use Rattle.survey.proofs.walk.walk_block.Statement.{statement}
 use Rattle.survey.proofs.walk.walk_block.Tie as tie
 
 abbrev invariant-loop : tie.invariant-loop
 invariant-loop m lists constants from to s left₀ right₀ w most r shelf₀ i₀ left right shelf i =
-    Holds m (mapsOf r) r.statements from to s shelf₀ left₀ w most i left shelf
+    Holds m (maps_of r) r.statements from to s shelf₀ left₀ w most i left shelf
     × (length right ≡ length right₀)
 
 abbrev decreases-loop : tie.decreases-loop
@@ -38,7 +38,7 @@ element-copy-out-statement c = search rules
 find-requires : tie.Need-find-requires invariant-loop decreases-loop
 find-requires c κs =
     let s = c.before.before.before.before.before in
-    find-asked (long s) s.requires c.before.before.loop.invariant.0 (omega arith)
+    find_asked (long s) s.requires c.before.before.loop.invariant.0 (omega arith)
 
 raw-size-requires : tie.Need-raw-size-requires invariant-loop decreases-loop
 raw-size-requires c κs =
@@ -62,7 +62,7 @@ returns c =
     let s = c.before.before.before.before.before.before.before.before.before in
     let a = s.args in
     let loop = c.before.before.before.before.before.before.loop in
-    subst (Walked a.m (mapsOf a.t4) a.t4.statements a.from a.to a.s a.d a.left.now a.w
+    subst (Walked a.m (maps_of a.t4) a.t4.statements a.from a.to a.s a.d a.left.now a.w
     a.most loop.left) (sym c.ended.ensures)
     (walk-over (long s) s.requires loop.invariant.0 (omega arith) c.before.before.before.find.ensures
     c.before.before.raw-size.ensures c.before.if1.true)
@@ -76,12 +76,12 @@ form-value-requires c κs =
 
 room : (c : tie.After-slice-known4 invariant-loop decreases-loop)
     → (c.before.before.before.before.before.before.before.before.before.before.before.before.loop.shelf.count < 256)
-    × (c.before.before.before.before.before.before.before.before.before.before.before.before.loop.shelf.top + c.before.before.before.before.form-value.result ≤ mostStanding)
+    × (c.before.before.before.before.before.before.before.before.before.before.before.before.loop.shelf.top + c.before.before.before.before.form-value.result ≤ most_standing)
 room c =
     let b = c.before.before.before.before.before.before.before.before in
     let s = b.before.before.before.before.before.before.before in
     let form-value = c.before.before.before.before.form-value in
-    shelf-room (long s) s.requires b.before.before.before.before.loop.invariant.0 (omega arith)
+    shelf_room (long s) s.requires b.before.before.before.before.loop.invariant.0 (omega arith)
     b.before.find.ensures b.raw-size.ensures
     c.before.before.before.before.before.before.before.if1.false form-value.ensures
 
@@ -141,7 +141,7 @@ returns-2 c =
     let s = c.before.before.before.before.before in
     let a = s.args in
     let loop = c.before.before.loop in
-    subst (Walked a.m (mapsOf a.t4) a.t4.statements a.from a.to a.s a.d a.left.now a.w
+    subst (Walked a.m (maps_of a.t4) a.t4.statements a.from a.to a.s a.d a.left.now a.w
     a.most loop.left) (sym c.ended2.ensures)
     (walk-done (long s) s.requires loop.i loop.left loop.shelf loop.invariant.0 (λ h. absurd (omega arith)))
 

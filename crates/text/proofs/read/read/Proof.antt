@@ -30,13 +30,13 @@ use Rattle.reader.specs.declared.reader.Reader.{Reader}
 use Rattle.reader.specs.Handed.{opened}
 use Rattle.reader.proofs.Laws.Held.{B, reader}
 use Rattle.reader.proofs.Laws.Says.{shape, Saying, answers}
-use Rattle.reader.proofs.Laws.Taken.{bytes, ofOne, handed, OwnBytes, Entry, Post, doubled, leaves, walked_from}
+use Rattle.reader.proofs.Laws.Taken.{bytes, of_one, handed, OwnBytes, Entry, Post, doubled, leaves, walked_from}
 use Rattle.reader.specs.contracts.reader.Reader as T
 use Rattle.reader.proofs.reader.Reader.TheLaws as T'
 use Rattle.reader.proofs.reader.open.Symbol as opens
 use Rattle.reader.proofs.reader.open.Met as open-thm
 use Rattle.text.specs.declared.read.Reading.{Reading}
-use Rattle.rules.specs.Read.{readText}
+use Rattle.rules.specs.Read.{read_text}
 use Rattle.text.specs.Reading.{ReadingIs}
 use Rattle.text.specs.From.{ReadsOn}
 use Rattle.text.proofs.Laws.From.{opened-reads}
@@ -57,15 +57,15 @@ abbrev Opens : Bor (List ℕ) → Reader → Type 0
 Opens s r = r ≡ opened s
 
 abbrev Says : Bor (List ℕ) → Reading → Type 0
-Says s t = ReadingIs t (readText s.now)
+Says s t = ReadingIs t (read_text s.now)
 
 module _ {M : Type 1} {𝓤 : Ura M} (𝓛 : Logic 𝓤) where
   -- the contracts that the proof cites
   abbrev Open : Contract 𝓤
-  Open = Saying (plain bytes.row ∷ []) (yes, tt) B (ofOne bytes B (λ _. Opens)) 𝓤 𝓛
+  Open = Saying (plain bytes.row ∷ []) (yes, tt) B (of_one bytes B (λ _. Opens)) 𝓤 𝓛
 
   abbrev All : Contract 𝓤
-  All = Saying (plain B ∷ []) (yes, tt) answer (ofOne reader answer (λ _. ReadsOn)) 𝓤 𝓛
+  All = Saying (plain B ∷ []) (yes, tt) answer (of_one reader answer (λ _. ReadsOn)) 𝓤 𝓛
 
 module _ {M : Type 1} {𝓤 : Ura M} (𝓛 : Logic 𝓤) (C : Calls 𝓤 𝓛.H) (Λ : Loops 𝓤 𝓛.H)
     (known-open : Triple 𝓤 (C opens.name) (Open 𝓛)) (known-all : Triple 𝓤 (C all.name) (All 𝓛))
@@ -86,14 +86,14 @@ module _ {M : Type 1} {𝓤 : Ura M} (𝓛 : Logic 𝓤) (C : Calls 𝓤 𝓛.H)
       use1 𝓛 (‵ (OwnBytes κ s) ⊛ (‵ (flft κ q) ⊛ ‵ ftrue) ⊛ ‵ (OwnBytes κ s)) (doubled 𝓛 κ q s) $ split3 ! $
       use2 𝓛 (raw (Entry bytes 𝓛 κ q s)) (handed 𝓛 κ q bytes s (bytes.val (κ, tt) s ∷ [])) $
       -- [what `open` asks; what s owns; room for _2; …; _1; …; room for _0; …]
-      answers (plain bytes.row ∷ []) (yes, tt) B (ofOne bytes B (λ _. Opens)) ! fm known-open κ q (s, tt)
+      answers (plain bytes.row ∷ []) (yes, tt) B (of_one bytes B (λ _. Opens)) ! fm known-open κ q (s, tt)
       (bytes.val (κ, tt) s ∷ [], tt) (and_then ! (load ! (from ! (stop !)) (look ! 4 refl)) (no_more !)) (λ u r e is.
       -- [what the reader owns; the token; what s owns; room for _2; …; _1; …; room for _0; …]
       land ! (from ! (stop !))
       (init ! 3 refl ((LL.lawful (T.the_type αᵉ) (T'.the_laws αᵉ) 𝓛).typed r _ is).0) $
       use2 𝓛 (raw (on_entry 𝓛 (shape (plain B ∷ []) (yes, tt) answer).signature (κ, tt) (q, tt) (r, tt)
       (u ∷ [], tt))) (handed 𝓛 κ q reader r (u ∷ [])) $
-      answers (plain B ∷ []) (yes, tt) answer (ofOne reader answer (λ _. ReadsOn)) ! fm known-all κ q (r, tt)
+      answers (plain B ∷ []) (yes, tt) answer (of_one reader answer (λ _. ReadsOn)) ! fm known-all κ q (r, tt)
       (u ∷ [], tt) (and_then ! (load ! (from ! (stop !)) (look ! 2 refl)) (no_more !)) (λ u' t e' is'.
       -- [the result; the token; what s owns; _2; …; _1; …; room for _0; …]
       land ! (from ! (stop !)) (init ! 7 refl ((LL.lawful S.the_type S'.the_laws 𝓛).typed t _ is').0) $

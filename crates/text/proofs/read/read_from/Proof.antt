@@ -1,12 +1,12 @@
 -- A text too long is refused; the others are read line by line. Assumes nothing.
 use borrow.Author.Tests.{lt-ltb, le-ltb}
 use mathlib.Core.Bool.{Bool, cond}
-use Rattle.tokens.specs.Ascii.{lineFeed}
+use Rattle.tokens.specs.Ascii.{line_feed}
 use Rattle.tokens.specs.Split.{pieces}
-use Rattle.reader.proofs.Laws.Handed.{placed-in}
+use Rattle.reader.proofs.Laws.Handed.{placed_in}
 use Rattle.rules.specs.State.{start}
-use Rattle.rules.specs.Read.{refused, takeLines}
-use Rattle.text.specs.From.{lines_from, readFrom}
+use Rattle.rules.specs.Read.{refused, take_lines}
+use Rattle.text.specs.From.{lines_from, read_from}
 use native.Mathlib.Omega.{arith}
 use mathlib.Core.Path.{ap, sym, ◌∙◌}
 use lib.ListN.{length, drop}
@@ -18,7 +18,7 @@ refuse-requires : tie.Need-refuse-requires
 refuse-requires c κs = λ z. absurd (omega (arith, z))
 
 returns : tie.Need-returns
-unfolding readFrom
+unfolding read_from
 returns c =
     let d = c.before.before.before in
     let s = d.args.s.now in
@@ -36,11 +36,11 @@ placed-requires c κs = search rules
 read-lines-requires : tie.Need-read-lines-requires
 read-lines-requires c κs =
     let d = c.before.before.before in
-    let p = placed-in d.args.s.now d.args.at d.args.line c.placed.result c.placed.ensures in
+    let p = placed_in d.args.s.now d.args.at d.args.line c.placed.result c.placed.ensures in
     (p.0, p.1, c.before.if1.false)
 
 returns-2 : tie.Need-returns-2
-unfolding readFrom
+unfolding read_from
 returns-2 c =
     let d = c.before.before.before.before in
     let s = d.args.s.now in
@@ -48,7 +48,7 @@ returns-2 c =
     let R = c.read-lines.ensures in
     record {
       answer = R.answer
-          ∙ (λ i. takeLines start (P i).line (pieces lineFeed (drop (P i).at s)))
+          ∙ (λ i. take_lines start (P i).line (pieces line_feed (drop (P i).at s)))
           ∙ ap (λ (b : Bool). cond b (refused 2 0) (lines_from s d.args.at d.args.line))
           (sym (le-ltb 16384 (length s) c.before.before.if1.false));
       taken = R.taken;

@@ -2,19 +2,19 @@
 use Rattle.grammar.specs.declared.line.Line.{Line}
 use Rattle.reader.specs.declared.cursor.Cursor.{Cursor}
 use Rattle.reader.specs.declared.cursor.Ahead.{Ahead}
-use Rattle.reader.specs.Cursor.{lookAt}
+use Rattle.reader.specs.Cursor.{look_at}
 use Rattle.text.specs.Reading.{ReadingIs}
-use Rattle.tokens.specs.Ascii.{lineFeed}
+use Rattle.tokens.specs.Ascii.{line_feed}
 use Rattle.tokens.specs.Split.{pieces}
 use Rattle.reader.proofs.Laws.Ahead.{look-line, end_ge}
-use Rattle.lines.specs.Lets.{setAll}
-use Rattle.lines.specs.Given.{givenCount, givenFrom, mostCodes}
-use Rattle.lines.specs.Known.{arrays, Kept, kept, stateIn, Sound, Sized}
-use Rattle.rules.specs.Limits.{mostStatements}
+use Rattle.lines.specs.Lets.{set_all}
+use Rattle.lines.specs.Given.{given_count, given_from, most_codes}
+use Rattle.lines.specs.Known.{arrays, Kept, kept, state_in, Sound, Sized}
+use Rattle.rules.specs.Limits.{most_statements}
 use Rattle.rules.specs.State.{State, start}
-use Rattle.rules.specs.Read.{takeLines}
+use Rattle.rules.specs.Read.{take_lines}
 use Rattle.lines.proofs.Laws.Known.{blank-sound}
-use Rattle.text.proofs.Laws.Stored.{Storing, storing-none, storing-more, storing-done, given-room}
+use Rattle.text.proofs.Laws.Stored.{Storing, storing_none, storing_more, storing_done, given-room}
 use Rattle.text.proofs.Laws.Stored.{kept-after, sized-after, blank-sized, blank-means}
 use Rattle.text.proofs.Laws.Walk.{line_refused, line_taken, text-unended, text-ended}
 use native.Mathlib.Omega.{arith}
@@ -36,9 +36,9 @@ decreases-loop2 s maps statements₀ table codes k next step put at count i₀ s
 abbrev invariant-loop : tie.invariant-loop
 invariant-loop s maps₀ statements₀ table₀ codes₀ k₀ c₀ maps statements table codes k c =
     let h = kept table k (arrays maps statements) in
-    (c.at ≤ length s) × (c.line ≤ c.at) × (length s ≤ 16384) × Sound k × Sized h × (length codes ≡ mostCodes)
-    × (takeLines start c₀.line (pieces lineFeed (drop c₀.at s))
-    ≡ takeLines (stateIn s h) c.line (pieces lineFeed (drop c.at s)))
+    (c.at ≤ length s) × (c.line ≤ c.at) × (length s ≤ 16384) × Sound k × Sized h × (length codes ≡ most_codes)
+    × (take_lines start c₀.line (pieces line_feed (drop c₀.at s))
+    ≡ take_lines (state_in s h) c.line (pieces line_feed (drop c.at s)))
 
 abbrev decreases-loop : tie.decreases-loop
 decreases-loop s maps₀ statements₀ table₀ codes₀ k₀ c₀ maps statements table codes k c = length s - c.at
@@ -53,7 +53,7 @@ held c = kept c.loop.table c.loop.k (arrays c.loop.maps c.loop.statements)
 
 -- the answer x of `look` is the line ahead
 seen : (c : tie.After-look invariant-loop2 decreases-loop2 invariant-loop decreases-loop) {x : Ahead} → c.look.result ≡ x
-    → x ≡ lookAt (text_of c.before) c.before.loop.c
+    → x ≡ look_at (text_of c.before) c.before.loop.c
 seen c e = sym e ∙ c.look.ensures
 
 empty-requires : tie.Need-empty-requires invariant-loop2 decreases-loop2 invariant-loop decreases-loop
@@ -79,8 +79,8 @@ loop-holds c =
       d.requires.2,
       blank-sound k.result k.ensures,
       blank-sized t.result k.result N.result t.ensures N.ensures,
-      length-replicate {A = ℕ} mostCodes 0,
-      ap (λ (st : State). takeLines st from.line (pieces lineFeed (drop from.at s))) (sym M),
+      length-replicate {A = ℕ} most_codes 0,
+      ap (λ (st : State). take_lines st from.line (pieces line_feed (drop from.at s))) (sym M),
     )
 
 look-requires : tie.Need-look-requires invariant-loop2 decreases-loop2 invariant-loop decreases-loop
@@ -127,13 +127,13 @@ loop2-holds : tie.Need-loop2-init invariant-loop2 decreases-loop2 invariant-loop
 loop2-holds c =
     let b = c.before.before.before.before in
     let L = b.before.before.before.before.before.before.before.loop in
-    storing-none L.statements b.take-line.new.1.1.1.1.1.0 b.take-line.result.put
+    storing_none L.statements b.take-line.new.1.1.1.1.1.0 b.take-line.result.put
     (L.k.origin + L.k.masked) c.count-given.result L.invariant.4.statements
 
 -- there is room for the statements that the record gives
 room : (c : tie.At-loop2 invariant-loop2 decreases-loop2 invariant-loop decreases-loop)
     → let L = c.before.before.before.before.before.before.before.before.before.before.before.before.loop in
-    L.k.origin + L.k.masked + c.before.count-given.result ≤ mostStatements
+    L.k.origin + L.k.masked + c.before.count-given.result ≤ most_statements
 room c =
     let b = c.before.before.before.before.before in
     let L = b.before.before.before.before.before.before.before.loop in
@@ -162,7 +162,7 @@ loop2-again : tie.Need-loop2-preserved invariant-loop2 decreases-loop2 invariant
 loop2-again c =
     let g = c.before.before.before in
     let M = g.loop2 in
-    storing-more _ _ _ _ g.before.count-given.result M.statements M.i M.invariant _
+    storing_more _ _ _ _ g.before.count-given.result M.statements M.i M.invariant _
     c.before.before.loop2-test.true c.statement-given.ensures
 
 -- the statements that the record gives stand behind the others
@@ -171,14 +171,14 @@ stored : (c : tie.After-loop2 invariant-loop2 decreases-loop2 invariant-loop dec
     let L = b.before.before.before.before.before.before.before.loop in
     let p = b.take-line.result.put in
     c.before.loop2.statements
-    ≡ setAll L.statements (L.k.origin + L.k.masked)
-    (givenFrom b.take-line.new.1.1.1.1.1.0 p 0 (givenCount p))
+    ≡ set_all L.statements (L.k.origin + L.k.masked)
+    (given_from b.take-line.new.1.1.1.1.1.0 p 0 (given_count p))
 stored c =
     let b = c.before.before.before.before.before.before in
     let L = b.before.before.before.before.before.before.before.loop in
     let M = c.before.loop2 in
     let n = c.before.before.count-given in
-    storing-done L.statements b.take-line.new.1.1.1.1.1.0 b.take-line.result.put
+    storing_done L.statements b.take-line.new.1.1.1.1.1.0 b.take-line.result.put
     (L.k.origin + L.k.masked) n.result M.statements M.i M.invariant c.loop2-test.false n.ensures
 
 maps-after-requires : tie.Need-maps-after-requires invariant-loop2 decreases-loop2 invariant-loop decreases-loop

@@ -1,5 +1,5 @@
 -- The routine of no text stands beside a refusal. Assumes nothing.
-use Rattle.text.proofs.Laws.Held.{nothing-held, reading-refused}
+use Rattle.text.proofs.Laws.Held.{nothing-held, reading_refused}
 use borrow.Author.Rules.{rules}
 use Rattle.text.proofs.read.refuse.Statement.{statement}
 use Rattle.text.proofs.read.refuse.Tie as tie
@@ -11,7 +11,7 @@ returns : tie.Need-returns
 returns c =
     let e = c.before.requires in
     record {
-      answer = reading-refused _ e;
+      answer = reading_refused _ e;
       taken = λ z. absurd (e z);
       held = nothing-held c.empty.result c.empty.ensures;
     }

@@ -2,7 +2,7 @@
 use Prim.Native.Nat.{ℕ, suc, ◌+◌, ◌-◌, ◌≤◌}
 use mathlib.Core.List.{List}
 use Rattle.lookup.specs.Names.{put}
-use Rattle.lines.specs.Lets.{nameless, putNameless}
+use Rattle.lines.specs.Lets.{nameless, put_nameless}
 use borrow.Author.Rules.{rules}
 use mathlib.Core.Path.{◌≡◌, refl, ap, ◌∙◌}
 use native.Mathlib.Omega.{arith}
@@ -10,13 +10,13 @@ use Rattle.text.proofs.store.put_nameless.Statement.{statement}
 use Rattle.text.proofs.store.put_nameless.Tie as tie
 
 abbrev invariant-loop : tie.invariant-loop
-invariant-loop t₀ at n i₀ t i = (i ≤ n) × (t ≡ putNameless t₀ at i)
+invariant-loop t₀ at n i₀ t i = (i ≤ n) × (t ≡ put_nameless t₀ at i)
 
 abbrev decreases-loop : tie.decreases-loop
 decreases-loop t₀ at n i₀ t i = n - i
 
 loop-holds : tie.Need-loop-init invariant-loop decreases-loop
-unfolding putNameless
+unfolding put_nameless
 loop-holds c = (omega arith, refl)
 
 add-put : tie.Need-overflow-add-put invariant-loop decreases-loop
@@ -32,7 +32,7 @@ loop-less : tie.Need-loop-smaller invariant-loop decreases-loop
 loop-less c = search rules
 
 loop-again : tie.Need-loop-preserved invariant-loop decreases-loop
-unfolding putNameless
+unfolding put_nameless
 loop-again c =
     let L = c.before.before.before.loop in
     let a = c.before.before.before.before.args in
@@ -40,7 +40,7 @@ loop-again c =
       omega arith,
       c.put.ensures
           ∙ ap (λ (t : List ℕ). put t (a.at + L.i) nameless) L.invariant.1
-          ∙ ap (putNameless a.t.now a.at) next,
+          ∙ ap (put_nameless a.t.now a.at) next,
     )
 
 returns : tie.Need-returns invariant-loop decreases-loop
@@ -48,7 +48,7 @@ returns c =
     let L = c.before.loop in
     let a = c.before.before.args in
     let all : L.i ≡ a.n = omega arith in
-    L.invariant.1 ∙ ap (putNameless a.t.now a.at) all
+    L.invariant.1 ∙ ap (put_nameless a.t.now a.at) all
 
 pub put-nameless-spec : {M : Type 1} → statement M
 put-nameless-spec =

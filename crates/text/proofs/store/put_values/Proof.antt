@@ -5,20 +5,20 @@ use mathlib.Core.List.{List}
 use mathlib.Core.Path.{ap, ◌∙◌}
 use lib.Dec.{eqb}
 use borrow.Author.Rules.{rules}
-use Rattle.rules.specs.Limits.{mostEntries}
-use Rattle.rules.specs.Order.{inMasked}
+use Rattle.rules.specs.Limits.{most_entries}
+use Rattle.rules.specs.Order.{in_masked}
 use Rattle.lookup.specs.Names.{put}
-use Rattle.lines.specs.Lets.{putLet}
-use Rattle.lines.proofs.Laws.Known.{slots-le}
+use Rattle.lines.specs.Lets.{put_let}
+use Rattle.lines.proofs.Laws.Known.{slots_le}
 use Rattle.text.proofs.store.put_values.Statement.{statement}
 use Rattle.text.proofs.store.put_values.Tie as tie
 
 -- there is room for the values
-room : (c : tie.After-name-slot) → c.name-slot.result + c.before.args.n ≤ mostEntries
+room : (c : tie.After-name-slot) → c.name-slot.result + c.before.args.n ≤ most_entries
 room c =
     let d = c.before in
     let k = d.args.k in
-    omega (arith, c.name-slot.ensures, slots-le k d.requires.0 d.args.n d.requires.1 (eqb k.stage inMasked))
+    omega (arith, c.name-slot.ensures, slots_le k d.requires.0 d.args.n d.requires.1 (eqb k.stage in_masked))
 
 name-slot-requires : tie.Need-name-slot-requires
 name-slot-requires c κs = search rules
@@ -42,7 +42,7 @@ returns c =
     let a = b.before.args in
     c.put.ensures
     ∙ ap (λ (t : List ℕ). put t (b.name-slot.result + (a.n - 1)) a.x) c.before.before.put-nameless.ensures
-    ∙ ap (λ (at : ℕ). putLet a.t.now at a.x a.n) b.name-slot.ensures
+    ∙ ap (λ (at : ℕ). put_let a.t.now at a.x a.n) b.name-slot.ensures
 
 pub put-values-spec : {M : Type 1} → statement M
 put-values-spec =

@@ -6,7 +6,7 @@ use types.Run.{OneOf, miss}
 use denote.Enum.Declared.{tag_of}
 use Rattle.lines.specs.declared.step.Put.{Put}
 use Rattle.lines.specs.declared.step.Put.TheVariants.{Nothing, Map, Input, Stated, Let}
-use Rattle.lines.specs.Given.{noStatement, givenAt}
+use Rattle.lines.specs.Given.{no_statement, given_at}
 use Rattle.lines.specs.contracts.step.Put as P
 use borrow.Author.Rules.{rules}
 use Rattle.text.proofs.store.statement_given.Statement.{statement}
@@ -17,7 +17,7 @@ abbrev others : List ℕ
 others = 0 ∷ 1 ∷ 2 ∷ []
 
 -- they give none
-none-given : (codes : List ℕ) (p : Put) (i : ℕ) → OneOf others (tag_of P.the_type p) → noStatement ≡ givenAt codes p i
+none-given : (codes : List ℕ) (p : Put) (i : ℕ) → OneOf others (tag_of P.the_type p) → no_statement ≡ given_at codes p i
 none-given codes Nothing i e = refl
 none-given codes (Map x) i e = refl
 none-given codes (Input x) i e = refl
@@ -40,7 +40,7 @@ returns-2 : tie.Need-returns-2
 returns-2 c =
     let d = c.before.before.before.before in
     c.statement-at.ensures
-    ∙ ap (λ (q : Put). givenAt d.args.codes.now q d.args.i) (sym c.before.before.p2.given.1)
+    ∙ ap (λ (q : Put). given_at d.args.codes.now q d.args.i) (sym c.before.before.p2.given.1)
 
 returns-3 : tie.Need-returns-3
 returns-3 c = let a = c.before.args in none-given a.codes.now a.p a.i c.match.keys3

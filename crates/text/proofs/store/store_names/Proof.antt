@@ -1,10 +1,10 @@
 -- In each arm what the record gives is known. Assumes nothing.
 use Rattle.lines.specs.declared.step.Put.{Put}
 use Rattle.lines.specs.Added.{Fits, InputFits}
-use Rattle.lines.specs.Stored.{nameSlot, tableAfter}
-use Rattle.lookup.specs.Names.{putShares}
-use Rattle.rules.specs.Limits.{maskedFrom}
-use Rattle.text.proofs.Laws.Stored.{let-one}
+use Rattle.lines.specs.Stored.{name_slot, table_after}
+use Rattle.lookup.specs.Names.{put_shares}
+use Rattle.rules.specs.Limits.{masked_from}
+use Rattle.text.proofs.Laws.Stored.{let_one}
 use Prim.Native.Nat.{ℕ, ◌+◌}
 use native.Mathlib.Omega.{arith}
 use mathlib.Core.List.{List}
@@ -19,8 +19,8 @@ fits c e = subst (Fits c.args.k) e c.requires.1
 
 -- and it tells the table
 told : (c : tie.Start) {q : Put} → c.args.p ≡ q
-    → let a = c.args in tableAfter a.t.now a.k q ≡ tableAfter a.t.now a.k a.p
-told c e = ap (tableAfter c.args.t.now c.args.k) (sym e)
+    → let a = c.args in table_after a.t.now a.k q ≡ table_after a.t.now a.k a.p
+told c e = ap (table_after c.args.t.now c.args.k) (sym e)
 
 enum_told : tie.Need-enum-told
 enum_told c = search rules
@@ -78,13 +78,13 @@ returns-3 c =
     let p = c.before.before.before.before.before.before.before.p2.given in
     let first = c.before.before.before.put2.ensures in
     c.put-shares.ensures
-    ∙ ap (λ (t : List ℕ). putShares t (maskedFrom + k.parts) p.0.0 k.shares) first ∙ told d p.1
+    ∙ ap (λ (t : List ℕ). put_shares t (masked_from + k.parts) p.0.0 k.shares) first ∙ told d p.1
 
 returns-4 : tie.Need-returns-4
 returns-4 c =
     let d = c.before.before.before.before.before in
     let p = c.before.before.before.p3.given in
-    c.put-values.ensures ∙ let-one d.args.t.now (nameSlot d.args.k) p.0.0 ∙ told d p.1
+    c.put-values.ensures ∙ let_one d.args.t.now (name_slot d.args.k) p.0.0 ∙ told d p.1
 
 returns-5 : tie.Need-returns-5
 returns-5 c =

@@ -5,7 +5,7 @@ use Prim.Native.Nat.{ℕ, ◌-◌}
 use borrow.Author.Rules.{rules}
 use Rattle.values.proofs.Laws.Forming.{image-asked, image-formed, row-lent}
 use Rattle.values.proofs.form.form_image.Statement.{statement}
-use Rattle.values.specs.Load.{mostTermBytes}
+use Rattle.values.specs.Load.{most_term_bytes}
 use Rattle.values.proofs.form.form_image.Tie as tie
 
 load-requires : tie.Need-load-requires
@@ -62,7 +62,7 @@ returns c =
     let load = b.before.before.before.before.load in
     let type_size = b.before.type_size in
     let apply-map = c.before.before.before.before.before.apply-map in
-    image-formed (take {A = ℕ} (a.w - 0) (replicate mostTermBytes 0)) a.m a.c _ type_size.ensures
+    image-formed (take {A = ℕ} (a.w - 0) (replicate most_term_bytes 0)) a.m a.c _ type_size.ensures
     p.2 p.3 load.ensures (row-lent a.w p.3.most) _ apply-map.new.1.1.1.1.0 _
     apply-map.ensures
 

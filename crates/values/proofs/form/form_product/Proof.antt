@@ -3,9 +3,9 @@ use lib.ListN.{replicate, take, length}
 use native.Mathlib.Omega.{arith}
 use Prim.Native.Nat.{ℕ, ◌*◌, ◌-◌, ◌≤◌}
 use borrow.Author.Rules.{rules}
-use Rattle.values.proofs.Laws.Forming.{first-row, first-inside, product-asked, product-formed, row-lent}
+use Rattle.values.proofs.Laws.Forming.{first-row, first-inside, product_asked, product_formed, row-lent}
 use Rattle.values.proofs.form.form_product.Statement.{statement}
-use Rattle.values.specs.Load.{mostTermBytes}
+use Rattle.values.specs.Load.{most_term_bytes}
 use Rattle.values.proofs.form.form_product.Tie as tie
 
 load-pair-requires : tie.Need-load-pair-requires
@@ -78,7 +78,7 @@ product-requires c κs =
     let load_pair = b.before.load_pair in
     let type_size = c.before.before.before.before.before.before.type_size in
     let size-of2 = c.before.before.before.before.before.size-of2 in
-    product-asked type_size.ensures size-of2.ensures p.0
+    product_asked type_size.ensures size-of2.ensures p.0
     load_pair.new.1.1.1.0 _ p.1 load_pair.ensures.size (row-lent a.w p.1.most)
 
 same_length : tie.Need-same-length
@@ -96,8 +96,8 @@ returns c =
     let type_size = b.before.before.type_size in
     let size-of2 = b.before.size-of2 in
     let product = c.before.before.before.product in
-    product-formed type_size.ensures size-of2.ensures p.0
-    load_pair.new.1.1.1.0 (take {A = ℕ} (a.w - 0) (replicate mostTermBytes 0)) p.1
+    product_formed type_size.ensures size-of2.ensures p.0
+    load_pair.new.1.1.1.0 (take {A = ℕ} (a.w - 0) (replicate most_term_bytes 0)) p.1
     load_pair.ensures.size
     (row-lent a.w p.1.most) a.m _ _
     product.new.1.0 load_pair.ensures product.ensures

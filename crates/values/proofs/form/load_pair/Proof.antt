@@ -3,7 +3,7 @@ use mathlib.Core.Path.{subst, sym}
 use Prim.Native.Nat.{ℕ}
 use borrow.Author.Rules.{rules}
 use Rattle.values.specs.Shelf.{Laid}
-use Rattle.values.specs.Source.{source_of, sourceSize}
+use Rattle.values.specs.Source.{source_of, source_size}
 use Rattle.values.specs.Load.{LoadAsked}
 use Rattle.values.proofs.Laws.Forming.{paired, second-asked}
 use Rattle.values.proofs.form.load_pair.Statement.{statement}
@@ -34,7 +34,7 @@ returns c =
     let type_size = c.before.before.before.type_size in
     let load2 = c.before.before.load2 in
     paired load.new.1.1.0 _ p load.ensures
-    (subst (λ (x : ℕ). Laid a.w load.new.1.1.0 load2.new.1.1.0 x (sourceSize a.b)
+    (subst (λ (x : ℕ). Laid a.w load.new.1.1.0 load2.new.1.1.0 x (source_size a.b)
     (source_of a.w a.left.now a.b)) type_size.ensures load2.ensures)
 
 pub load-pair-spec : {M : Type 1} → statement M

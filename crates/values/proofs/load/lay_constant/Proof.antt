@@ -1,12 +1,12 @@
 -- `values::load::lay_constant` meets its contract. No term for 0, else a row with the constant in front. Assumes
 -- nothing.
 use borrow.Author.Rules.{rules}
-use Rattle.values.proofs.Laws.Laying.{lay-constant-law, lay-nothing-law, constant-room}
+use Rattle.values.proofs.Laws.Laying.{lay-constant_law, lay-nothing_law, constant-room}
 use Rattle.values.proofs.load.lay_constant.Statement.{statement}
 use Rattle.values.proofs.load.lay_constant.Tie as tie
 
 returns : tie.Need-returns
-returns c = lay-nothing-law _ _ c.before.before.args.b.now _ _ c.if1.true
+returns c = lay-nothing_law _ _ c.before.before.args.b.now _ _ c.if1.true
 
 array-write-t : tie.Need-array-write-t
 array-write-t c = search rules
@@ -38,7 +38,7 @@ returns-2 c =
     let p = c.before.before.before.before.before.before.before.before.requires in
     let if1 = c.before.before.before.before.before.before.if1 in
     let write-at = c.before.before.write-at in
-    lay-constant-law _ _ _ _ _ if1.false p write-at.ensures
+    lay-constant_law _ _ _ _ _ if1.false p write-at.ensures
 
 pub lay-constant-spec : {M : Type 1} → statement M
 lay-constant-spec =

@@ -1,6 +1,6 @@
 -- `values::load::lay_stored` meets its contract. Bytes written are terms laid. Assumes nothing.
 use borrow.Author.Rules.{rules}
-use Rattle.values.proofs.Laws.Laying.{lay-stored-law}
+use Rattle.values.proofs.Laws.Laying.{lay-stored_law}
 use Rattle.values.proofs.load.lay_stored.Statement.{statement}
 use Rattle.values.proofs.load.lay_stored.Tie as tie
 
@@ -33,7 +33,7 @@ same_length c = search rules
 
 returns : tie.Need-returns
 returns c =
-    lay-stored-law _ _ _ _ _ _ _ c.before.before.before.before.before.before.before.requires
+    lay-stored_law _ _ _ _ _ _ _ c.before.before.before.before.before.before.before.requires
     c.before.before.write-at.ensures
 
 pub lay-stored-spec : {M : Type 1} → statement M

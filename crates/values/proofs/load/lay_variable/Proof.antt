@@ -1,6 +1,6 @@
 -- `values::load::lay_variable` meets its contract. A row of zeros with two ones, written as one term. Assumes nothing.
 use borrow.Author.Rules.{rules}
-use Rattle.values.proofs.Laws.Laying.{lay-variable-law}
+use Rattle.values.proofs.Laws.Laying.{lay-variable_law}
 use Rattle.values.proofs.load.lay_variable.Statement.{statement}
 use Rattle.values.proofs.load.lay_variable.Tie as tie
 
@@ -33,7 +33,7 @@ same_length c = search rules
 
 returns : tie.Need-returns
 returns c =
-    lay-variable-law _ _ _ _ _ c.before.before.before.before.before.before.before.requires
+    lay-variable_law _ _ _ _ _ c.before.before.before.before.before.before.before.requires
     c.before.before.write-at.ensures
 
 pub lay-variable-spec : {M : Type 1} → statement M

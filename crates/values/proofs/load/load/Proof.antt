@@ -1,6 +1,6 @@
 -- `values::load::load` meets its contract. Each arm: what it asks and what it leaves, Laws/Loading. Assumes nothing.
 use borrow.Author.Rules.{rules}
-use Rattle.values.specs.Source.{source_of, sourceSize}
+use Rattle.values.specs.Source.{source_of, source_size}
 use Rattle.values.proofs.Laws.Loading.{constant-asked, variables-asked, stored-asked, loaded_at}
 use Rattle.values.proofs.load.load.Statement.{statement}
 use Rattle.values.proofs.load.load.Tie as tie
@@ -30,7 +30,7 @@ same_length : tie.Need-same-length
 same_length c = search rules
 
 returns : tie.Need-returns
-unfolding source_of sourceSize
+unfolding source_of source_size
 returns c =
     loaded_at c.before.before.before.before.before.before.before.before.before.requires
     c.before.before.before.before.before.s.given.1
@@ -40,7 +40,7 @@ same-length-2 : tie.Need-same-length-2
 same-length-2 c = search rules
 
 returns-2 : tie.Need-returns-2
-unfolding source_of sourceSize
+unfolding source_of source_size
 returns-2 c =
     loaded_at c.before.before.before.before.before.before.before.before.before.requires
     c.before.before.before.before.before.s2.given.1
@@ -50,7 +50,7 @@ same-length-3 : tie.Need-same-length-3
 same-length-3 c = search rules
 
 returns-3 : tie.Need-returns-3
-unfolding source_of sourceSize
+unfolding source_of source_size
 returns-3 c =
     loaded_at c.before.before.before.before.before.before.before.before.before.requires
     c.before.before.before.before.before.s3.given.1

@@ -3,10 +3,10 @@ use mathlib.Core.Path.{ap, ap₂, ◌∙◌}
 use mathlib.Core.List.{[]}
 use Prim.Native.Nat.{ℕ, ◌+◌, ◌*◌}
 use lib.ListN.{get_or}
-use Rattle.poly.specs.Size.{oneIf, nonzeros}
+use Rattle.poly.specs.Size.{one_if, nonzeros}
 use native.Mathlib.Omega.{arith}
 use borrow.Author.Rules.{rules}
-use Rattle.values.specs.Found.{foundSize}
+use Rattle.values.specs.Found.{found_size}
 use Rattle.values.proofs.Laws.Sizes.{sum-small, product_small, image-place}
 use Rattle.values.proofs.raw.raw_size.Statement.{statement}
 use Rattle.values.proofs.raw.raw_size.Tie as tie
@@ -73,29 +73,29 @@ image-size-requires c κs =
     omega (arith, c.size-of6.ensures, image-place s.requires c.before.before.before.found4.given.1)
 
 returns : tie.Need-returns
-unfolding foundSize
+unfolding found_size
 returns c = rw c.before.before.found.given.1 c.type_size.ensures
 
 returns-2 : tie.Need-returns-2
-unfolding foundSize
+unfolding found_size
 returns-2 c =
     let e = ap₂ (λ (x y : ℕ). x + y) c.before.size-of2.ensures c.size-of3.ensures in
     rw c.before.before.before.found2.given.1 e
 
 returns-3 : tie.Need-returns-3
-unfolding foundSize
+unfolding found_size
 returns-3 c =
     let e = ap₂ (λ (x y : ℕ). x * y) c.before.size-of4.ensures c.size-of5.ensures in
     rw c.before.before.before.found3.given.1 e
 
 returns-4 : tie.Need-returns-4
-unfolding foundSize
+unfolding found_size
 returns-4 c =
     let a = c.before.before.before.before.before.before.args in
     let found4 = c.before.before.before.before.found4 in
     let f = found4.given.0.0 in
     let size-of6 = c.before.size-of6 in
-    let e = ap (λ (x : ℕ). nonzeros (get_or a.t1 f []) * x + oneIf (get_or a.t2 f 0)) size-of6.ensures in
+    let e = ap (λ (x : ℕ). nonzeros (get_or a.t1 f []) * x + one_if (get_or a.t2 f 0)) size-of6.ensures in
     rw found4.given.1 (c.image-size.ensures ∙ e)
 
 pub raw-size-spec : {M : Type 1} → statement M

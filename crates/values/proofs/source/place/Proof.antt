@@ -1,7 +1,7 @@
 -- `values::source::place` meets its contract. Three ways out, each a law of Laws/Sources. Assumes nothing.
 use native.Mathlib.Omega.{arith}
 use borrow.Author.Rules.{rules}
-use Rattle.values.proofs.Laws.Sources.{variable-fits, located-variables, located-nothing, located-stored}
+use Rattle.values.proofs.Laws.Sources.{variable-fits, located_variables, located_nothing, located_stored}
 use Rattle.values.proofs.source.place.Statement.{statement}
 use Rattle.values.proofs.source.place.Tie as tie
 
@@ -11,13 +11,13 @@ mul-t8 c =
     omega (arith, variable-fits a.s a.i (omega arith))
 
 returns : tie.Need-returns
-returns c = located-variables _ _ _ (omega arith)
+returns c = located_variables _ _ _ (omega arith)
 
 sub-if2 : tie.Need-overflow-sub-if2
 sub-if2 c = search rules
 
 returns-2 : tie.Need-returns-2
-returns-2 c = located-nothing _ _ _ (omega arith) (omega arith) (omega arith)
+returns-2 c = located_nothing _ _ _ (omega arith) (omega arith) (omega arith)
 
 add_at : tie.Need-overflow-add-at
 add_at c = search rules
@@ -43,7 +43,7 @@ cast-t18 c = search rules
 returns-3 : tie.Need-returns-3
 returns-3 c =
     let p = c.before.before.before.before.before.before.before.before.requires in
-    located-stored _ _ _ p.sound (omega arith) (omega arith) (omega arith)
+    located_stored _ _ _ p.sound (omega arith) (omega arith) (omega arith)
 
 pub place-spec : {M : Type 1} → statement M
 place-spec =

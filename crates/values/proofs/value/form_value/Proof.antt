@@ -1,7 +1,7 @@
 -- `values::value::form_value` meets its contract. Each arm by its law of Laws/Values. Assumes nothing.
 use borrow.Author.Rules.{rules}
-use Rattle.values.specs.Found.{foundValue}
-use Rattle.values.proofs.Laws.Values.{copy-asked, sum-asked, product-asked, image-asked, formed-at}
+use Rattle.values.specs.Found.{found_value}
+use Rattle.values.proofs.Laws.Values.{copy-asked, sum-asked, product_asked, image-asked, formed-at}
 use Rattle.values.proofs.value.form_value.Statement.{statement}
 use Rattle.values.proofs.value.form_value.Tie as tie
 
@@ -26,7 +26,7 @@ enum-known-found-3 c = search rules
 
 form-product-requires : tie.Need-form-product-requires
 form-product-requires c κs =
-    product-asked c.before.before.before.before.before.before.before.requires
+    product_asked c.before.before.before.before.before.before.before.requires
     c.before.before.before.found3.given.1
 
 enum-known-found-4 : tie.Need-enum-known-found-4
@@ -47,7 +47,7 @@ same-length-2 : tie.Need-same-length-2
 same-length-2 c = search rules
 
 returns : tie.Need-returns
-unfolding foundValue
+unfolding found_value
 returns c =
     formed-at c.before.before.before.before.before.before.before.before.before.before.before.before.requires
     c.before.before.before.before.before.before.before.before.found.given.1
@@ -60,7 +60,7 @@ same-length-4 : tie.Need-same-length-4
 same-length-4 c = search rules
 
 returns-2 : tie.Need-returns-2
-unfolding foundValue
+unfolding found_value
 returns-2 c =
     formed-at c.before.before.before.before.before.before.before.before.before.before.before.before.requires
     c.before.before.before.before.before.before.before.before.found2.given.1
@@ -73,7 +73,7 @@ same-length-6 : tie.Need-same-length-6
 same-length-6 c = search rules
 
 returns-3 : tie.Need-returns-3
-unfolding foundValue
+unfolding found_value
 returns-3 c =
     formed-at c.before.before.before.before.before.before.before.before.before.before.before.before.requires
     c.before.before.before.before.before.before.before.before.found3.given.1
@@ -86,7 +86,7 @@ same-length-8 : tie.Need-same-length-8
 same-length-8 c = search rules
 
 returns-4 : tie.Need-returns-4
-unfolding foundValue
+unfolding found_value
 returns-4 c =
     formed-at c.before.before.before.before.before.before.before.before.before.before.before.before.requires
     c.before.before.before.before.before.before.before.before.found4.given.1

@@ -1,5 +1,5 @@
 -- `vectors::cases::print_line` meets its contract. Assumes nothing.
-use Rattle.print.proofs.Printed.{formed-le}
+use Rattle.print.proofs.Printed.{formed_le}
 use lib.Seq.{length-take-le}
 use mathlib.Core.Path.{sym}
 use borrow.Author.Rules.{rules}
@@ -13,10 +13,10 @@ answer-with-requires : tie.Need-answer-with-requires
 answer-with-requires c κs = search rules
 
 array-share-prefix-out : tie.Need-array-share-prefix-out
-array-share-prefix-out c = formed-le c.before.answer-with.ensures
+array-share-prefix-out c = formed_le c.before.answer-with.ensures
 
 slice-aggregate-print-word : tie.Need-slice-aggregate-print-word
-slice-aggregate-print-word c = sym (length-take-le _ _ (formed-le c.before.before.answer-with.ensures))
+slice-aggregate-print-word c = sym (length-take-le _ _ (formed_le c.before.before.answer-with.ensures))
 
 print-word-requires : tie.Need-print-word-requires
 print-word-requires c κs = search rules

@@ -1,6 +1,6 @@
 -- The invariant: the values put, and those of the inputs that are left, are those of all. Assumes nothing.
 use Rattle.std.proofs.Common.{◌≡◌, ℕ, ◌+◌, ◌-◌, ◌*◌, ◌≤◌, ◌++◌, map, length, take, drop, sym, refl, ap, ◌∙◌, append-nil, arith, drop-drop, rules}
-use Rattle.verdict.proofs.Laws.Parts.{row_next, row-end}
+use Rattle.verdict.proofs.Laws.Parts.{row_next, row_end}
 use Rattle.verdict.proofs.Laws.Turns.{inputs-more}
 use Rattle.verdict.proofs.block.begin_origin.Statement.{statement}
 use Rattle.verdict.specs.Instances.{bytes}
@@ -29,7 +29,7 @@ add-end : tie.Need-overflow-add-end invariant-loop decreases-loop
 add-end c =
     let l = c.before.loop in
     let g = c.before.before.before.before.args in
-    omega (arith, row-end l.i g.inputs g.k c.loop-test.true)
+    omega (arith, row_end l.i g.inputs g.k c.loop-test.true)
 
 sub-join : tie.Need-overflow-sub-join invariant-loop decreases-loop
 sub-join c = search rules
@@ -41,7 +41,7 @@ part-join-end : tie.Need-slice-bounds-join-end invariant-loop decreases-loop
 part-join-end c =
     let l = c.before.loop in
     let g = c.before.before.before.before.args in
-    omega (arith, row-end l.i g.inputs g.k c.loop-test.true)
+    omega (arith, row_end l.i g.inputs g.k c.loop-test.true)
 
 join-requires : tie.Need-join-requires invariant-loop decreases-loop
 join-requires c κs = search rules

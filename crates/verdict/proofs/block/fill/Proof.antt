@@ -1,7 +1,7 @@
 -- The invariant: from the values put, the statements that are left give what all of them give. Assumes nothing.
 use Rattle.verdict.specs.Block.{part}
 use Rattle.std.proofs.Common.{◌≡◌, ℕ, ◌+◌, ◌-◌, ◌≤◌, length, get_or, take, sym, ap, ◌∙◌, arith, rules}
-use Rattle.text.specs.Routine.{mapsOf}
+use Rattle.text.specs.Routine.{maps_of}
 use Rattle.verdict.proofs.Laws.Turns.{blank, values-none, values-more}
 use Rattle.verdict.proofs.block.fill.Statement.{statement}
 use Rattle.verdict.specs.Instances.{bytes}
@@ -15,8 +15,8 @@ invariant-loop m from to xs vs₀ n r maps count i₀ at₀ vs i at =
     × (i ≤ to)
     × (at ≡ n + (i - from))
     × (length vs ≡ length vs₀)
-    × (values (bytes m) (mapsOf r) xs (take at vs) (part i to r.statements)
-    ≡ values (bytes m) (mapsOf r) xs (take n vs₀) (part from to r.statements))
+    × (values (bytes m) (maps_of r) xs (take at vs) (part i to r.statements)
+    ≡ values (bytes m) (maps_of r) xs (take n vs₀) (part from to r.statements))
 
 abbrev decreases-loop : tie.decreases-loop
 decreases-loop m from to xs vs₀ n r maps count i₀ at₀ vs i at = to - i
@@ -55,7 +55,7 @@ loop-less : tie.Need-loop-smaller invariant-loop decreases-loop
 loop-less c = search rules
 
 loop-again : tie.Need-loop-preserved invariant-loop decreases-loop
-unfolding mapsOf
+unfolding maps_of
 loop-again c =
     let l = c.before.before.before.before.before.loop in
     let s = c.before.before.before.before.before.before.before.before.before in
@@ -64,10 +64,10 @@ loop-again c =
     let sized : length stored ≡ 256 = sym (length-map stored _) ∙ s.well-formed.1.0.1.1.1.1.1.1.1.0.1.0.1 in
     let whole : l.at - 0 ≡ l.at = omega arith in
     let gives : ℕ → ℕ = λ k.
-    given (bytes g.m) (mapsOf g.t2) g.xs.now (take k l.vs) (get_or stored l.i blank).op in
+    given (bytes g.m) (maps_of g.t2) g.xs.now (take k l.vs) (get_or stored l.i blank).op in
     let value = c.given.ensures ∙ ap gives whole in
     let next =
-    values-more (bytes g.m) (mapsOf g.t2) g.xs.now l.vs stored l.at l.i g.to
+    values-more (bytes g.m) (maps_of g.t2) g.xs.now l.vs stored l.at l.i g.to
     c.given.result blank (omega arith) (omega arith) (omega arith) value in
     (omega arith, omega arith, omega arith, search rules, next ∙ l.invariant.4)
 
@@ -81,7 +81,7 @@ returns c =
     let all : l.i ≡ g.to = omega arith in
     let end : g.n + (g.to - g.from) ≡ l.at = omega arith in
     let vs = take l.at l.vs in
-    let none = values-none (bytes g.m) (mapsOf g.t2) g.xs.now vs g.t2.statements g.to in
+    let none = values-none (bytes g.m) (maps_of g.t2) g.xs.now vs g.t2.statements g.to in
     record { sized = l.invariant.3; filled = rw end (sym none ∙ rw all at l.invariant.4) }
 
 pub fill_spec : {M : Type 1} → statement M
