@@ -1,10 +1,12 @@
 // Reads a text from standard input, judges it and prints one line. A failed read prints none.
+#![tactic(auto)]
+
 ghost use Rattle.io.specs.Counts.{IsPrefixLen};
 
 use libc::{STDERR_FILENO, STDIN_FILENO, STDOUT_FILENO};
 
 // What came from standard input: how many bytes, unless a read failed.
-#[derive(Drop)]
+#[derive(Clone, Copy)]
 struct Input {
     failed: bool,
     count: usize,

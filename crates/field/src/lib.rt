@@ -1,4 +1,6 @@
 // The field of 256 elements, over the low byte m of its modulus, and affine maps on it.
+#![tactic(auto)]
+
 ghost use Rattle.std.specs.Prelude.{◌≡◌, ◌<◌, get_or};
 ghost use Rattle.field.specs.Field.{double, times, power, squared};
 ghost use Rattle.field.specs.Maps.{list_of, affine, dual_of, coefficient, coefficients_of};

@@ -20,7 +20,7 @@ use tokens::word::Word;
 use tokens::{bytes, split, token};
 
 // What stands before the first mark: an operation with its (, another word with one, or an operand.
-#[derive(Drop)]
+#[derive(Clone, Copy)]
 pub enum Operation {
     Two(Binary),
     Image,
@@ -30,7 +30,7 @@ pub enum Operation {
 
 // Whether a part of a formula has its form, where it ends, how deep it nests, and how many
 // operations it has.
-#[derive(Drop)]
+#[derive(Clone, Copy)]
 pub struct FormulaRead {
     pub ok: bool,
     pub end: usize,

@@ -12,14 +12,14 @@ use tokens::token::{Number, TermForm};
 use tokens::{split, token};
 
 // Where a line stands, without its line feed.
-#[derive(Drop)]
+#[derive(Clone, Copy)]
 pub struct Line {
     pub from: usize,
     pub len: usize,
 }
 
 // A name: where the bytes before its dot stand, and the digit behind it, or NO_PART.
-#[derive(Drop)]
+#[derive(Clone, Copy)]
 pub struct NameRef {
     pub at: usize,
     pub len: usize,
@@ -27,14 +27,14 @@ pub struct NameRef {
 }
 
 // A name in the text, or no name.
-#[derive(Drop)]
+#[derive(Clone, Copy)]
 pub enum NameRead {
     Name(NameRef),
     Bad,
 }
 
 // An operand in the text, or none.
-#[derive(Drop)]
+#[derive(Clone, Copy)]
 pub enum TermRead {
     Name(NameRef),
     Byte(u8),

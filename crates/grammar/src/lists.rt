@@ -11,7 +11,7 @@ use tokens::token::Number;
 use tokens::word::Word;
 
 // The eight columns of a map, where each is two hex digits.
-#[derive(Drop)]
+#[derive(Clone, Copy)]
 pub struct Columns {
     pub ok: bool,
     pub bytes: [u8; COLUMNS],
@@ -42,7 +42,7 @@ pub fn read_columns(s: &[u8], l: Line) -> Columns
 }
 
 // The names of an output line, where each is one.
-#[derive(Drop)]
+#[derive(Clone, Copy)]
 pub struct Outputs {
     pub ok: bool,
     pub items: [NameRef; MOST_SHARES],

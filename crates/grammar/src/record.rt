@@ -13,14 +13,14 @@ use tokens::token::Number;
 use tokens::word::Word;
 
 // An operation on two operands.
-#[derive(Drop)]
+#[derive(Clone, Copy)]
 pub enum Binary {
     Xor,
     Mul,
 }
 
 // What a statement computes, with its operands as they stand in the text.
-#[derive(Drop)]
+#[derive(Clone, Copy)]
 pub enum FormRead {
     Set(TermRead),
     Two(Binary, TermRead, TermRead),
@@ -30,7 +30,7 @@ pub enum FormRead {
 
 // A record with its names by place. The columns of a map, the formula of a `let` and the names of
 // an output stay in the line.
-#[derive(Drop)]
+#[derive(Clone, Copy)]
 pub enum Rec {
     Bad,
     Shares(Number),

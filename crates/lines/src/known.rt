@@ -12,7 +12,7 @@ use rules::limits::{MASKED_FROM, MOST_STATEMENTS, MOST_VARIABLES, ORIGIN_FROM};
 use tokens::limits::MOST_SHARES;
 
 // The state of reading between two lines, but for the names, maps and statements themselves.
-#[derive(Drop)]
+#[derive(Clone, Copy)]
 pub struct Known {
     pub stage: u8,
     pub shares: usize,
@@ -30,7 +30,7 @@ pub struct Known {
 
 // What a record is taken by: what is known above it, its line and the line's number, and whether it
 // may stand there.
-#[derive(Drop)]
+#[derive(Clone, Copy)]
 pub struct Setting {
     pub known: Known,
     pub line: Line,

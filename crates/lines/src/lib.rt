@@ -1,5 +1,7 @@
 // What one line of a text leads to: its refusal, or what is known behind it and what is to be
 // stored.
+#![tactic(auto)]
+
 pub mod assign;
 pub mod declare;
 pub mod known;

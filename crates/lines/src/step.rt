@@ -8,7 +8,7 @@ use rules::types::{AffineMap, Statement};
 use tokens::limits::COLUMNS;
 
 // A formula: where its field stands, how many statements it counts as, and its line.
-#[derive(Drop)]
+#[derive(Clone, Copy)]
 pub struct Letting {
     pub at: usize,
     pub len: usize,
@@ -18,7 +18,7 @@ pub struct Letting {
 
 // What a record gives: nothing, a map with its name, an input's name, a statement with its name, or
 // a formula with its name.
-#[derive(Drop)]
+#[derive(Clone, Copy)]
 pub enum Put {
     Nothing,
     Map(NameRef),
@@ -29,7 +29,7 @@ pub enum Put {
 
 // A refusal's number, or 0 with what is known behind and what is to be stored; the map stands
 // beside it.
-#[derive(Drop)]
+#[derive(Clone, Copy)]
 pub struct Step {
     pub refusal: u8,
     pub known: Known,

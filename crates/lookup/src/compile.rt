@@ -22,7 +22,7 @@ pub type Codes = [usize; CODES];
 
 // The names that a formula reads, where its field stands in the text, and the place of its first
 // operation's value.
-#[derive(Drop)]
+#[derive(Clone, Copy)]
 pub struct Lookup {
     pub names: Names,
     pub maps: Names,
@@ -32,7 +32,7 @@ pub struct Lookup {
 
 // A formula looked up: where it ends, whether it reads what is not given, its value, and the
 // operations written so far.
-#[derive(Drop)]
+#[derive(Clone, Copy)]
 pub struct Compiled {
     pub end: usize,
     pub unknown: bool,

@@ -1,4 +1,6 @@
 // Names looked up in their sets: what a statement, a formula or the output line reads, by places.
+#![tactic(auto)]
+
 pub mod compile;
 pub mod decode;
 pub mod flags;

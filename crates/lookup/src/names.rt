@@ -11,7 +11,7 @@ use tokens::{bytes, split};
 pub type Table = [usize; NUMBERS];
 
 // A set of names in the order of giving: its first entry in the table, and how many it has.
-#[derive(Drop)]
+#[derive(Clone, Copy)]
 pub struct Names {
     pub from: usize,
     pub count: usize,

@@ -32,7 +32,7 @@ pub fn is_repeated(s: &[u8], o: Outputs) -> bool
 }
 
 // The places of the names, and whether one of them is not given.
-#[derive(Drop)]
+#[derive(Clone, Copy)]
 pub struct PlacesFound {
     pub unknown: bool,
     pub places: [usize; MOST_SHARES],

@@ -13,14 +13,14 @@ use grammar::record::{Binary, FormRead};
 use rules::types::{Op, Operand};
 
 // A name by its place, and whether it is not given.
-#[derive(Drop)]
+#[derive(Clone, Copy)]
 pub struct NameFound {
     pub unknown: bool,
     pub place: usize,
 }
 
 // An operand by its value's place, and whether its name is not given; not ok where it is none.
-#[derive(Drop)]
+#[derive(Clone, Copy)]
 pub struct TermFound {
     pub ok: bool,
     pub unknown: bool,
@@ -29,7 +29,7 @@ pub struct TermFound {
 
 // What a statement computes by places, whether it reads what is not given, and the variables
 // that it draws.
-#[derive(Drop)]
+#[derive(Clone, Copy)]
 pub struct FormFound {
     pub ok: bool,
     pub unknown: bool,

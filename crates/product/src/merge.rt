@@ -9,7 +9,7 @@ ghost use Rattle.product.specs.Merge.{Grown, facing};
 use buffer::term::{compare_powers, move_down, move_up};
 
 // How far a merge is: how many terms are written, and the next term of the sum and of the piece.
-#[derive(Drop)]
+#[derive(Clone, Copy)]
 pub struct Merge {
     pub terms: usize,
     pub sum: usize,

@@ -7,7 +7,7 @@ use tokens::bytes;
 use tokens::bytes::LINE_FEED;
 
 // Where the next line starts, and how many lines stand before it.
-#[derive(Drop)]
+#[derive(Clone, Copy)]
 pub struct Cursor {
     pub at: usize,
     pub line: usize,
@@ -15,7 +15,7 @@ pub struct Cursor {
 
 // The line ahead: one that a line feed ends, with the cursor behind it; one that lacks its line
 // feed; or none.
-#[derive(Drop)]
+#[derive(Clone, Copy)]
 pub enum Ahead {
     Line(Line, Cursor),
     Unended(Line),

@@ -14,7 +14,7 @@ use tokens::{bytes, split, word};
 
 // A record with its line, or a refusal's number, each with the place behind the line; or the end.
 // The number of the line is the number of lines before the place behind it.
-#[derive(Drop)]
+#[derive(Clone, Copy)]
 pub enum Handed {
     Record(Line, Rec, Cursor),
     Refused(u8, Cursor),

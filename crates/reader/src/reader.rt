@@ -7,7 +7,7 @@ use crate::handed;
 use crate::handed::Handed;
 
 // A text, where the next line starts, and how many lines stand before it.
-#[derive(Drop)]
+#[derive(Clone, Copy)]
 pub struct Reader<'a> {
     pub text: &'a [u8],
     pub at: usize,

@@ -9,7 +9,7 @@ use field::{power_table, times};
 
 // What a pass has written and gathered: how many terms, and the sum of the coefficients of the
 // group that it is in.
-#[derive(Drop)]
+#[derive(Clone, Copy)]
 pub struct Pass {
     pub terms: usize,
     pub sum: u8,

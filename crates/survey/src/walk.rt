@@ -12,7 +12,7 @@ use values::source::Scope;
 use values::value::form_value;
 
 // Whether the limit was exceeded, with the line; and the directory of the values that stand.
-#[derive(Drop)]
+#[derive(Clone, Copy)]
 pub struct Walk {
     pub over: bool,
     pub line: usize,

@@ -1,4 +1,6 @@
 // A text becomes a routine or a refusal.
+#![tactic(auto)]
+
 pub mod read;
 pub mod routine;
 pub mod store;

@@ -24,7 +24,7 @@ use tokens::{bytes, split};
 
 // A refusal's number and line, both 0 where there is none; then the routine is the one that the
 // text holds.
-#[derive(Drop)]
+#[derive(Clone, Copy)]
 pub struct Reading {
     pub refusal: u8,
     pub line: usize,

@@ -7,7 +7,7 @@ use rules::types::{AffineMap, Op, Operand, Statement};
 use tokens::limits::{COLUMNS, MOST_SHARES};
 
 // The statements of the origin block stand first, those of the masked block behind them.
-#[derive(Drop)]
+#[derive(Clone, Copy)]
 pub struct Routine {
     pub shares: usize,
     pub maps: [AffineMap; MOST_MAPS],

@@ -5,7 +5,7 @@ ghost use Rattle.tokens.specs.Word.{word_of};
 use crate::split;
 
 // The word that a record begins with; Unknown stands for every other.
-#[derive(Drop)]
+#[derive(Clone, Copy)]
 pub enum Word {
     Shares,
     Map,

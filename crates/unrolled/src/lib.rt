@@ -1,1 +1,2 @@
 // The unrolled form of a text: definitions and theorems alone.
+#![tactic(auto)]

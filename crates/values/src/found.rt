@@ -8,7 +8,7 @@ use crate::source::{Scope, Source, locate};
 use rules::types::Op;
 
 // A copy; the sum or the product of two; the image under a map, by its place.
-#[derive(Drop)]
+#[derive(Clone, Copy)]
 pub enum Found {
     Copy(Source),
     Sum(Source, Source),

@@ -1,4 +1,6 @@
 // A statement's value formed in the first work buffer, behind the values so far.
+#![tactic(auto)]
+
 pub mod form;
 pub mod found;
 pub mod load;

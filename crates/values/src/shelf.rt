@@ -3,7 +3,7 @@ ghost use Rattle.std.specs.Prelude.{◌≡◌};
 ghost use Rattle.values.specs.Shelf.{bare};
 
 // The value of statement i has sizes[i] terms, from term starts[i] on; all values stand below top.
-#[derive(Drop)]
+#[derive(Clone, Copy)]
 pub struct Shelf {
     pub starts: [u16; 256],
     pub sizes: [u16; 256],

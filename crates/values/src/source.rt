@@ -8,7 +8,7 @@ use rules::types::Operand;
 
 // A constant; the sum of some variables, the first and how many; or a value in the buffer, its
 // first term and how many.
-#[derive(Drop)]
+#[derive(Clone, Copy)]
 pub enum Source {
     Constant(u8),
     Variables(usize, usize),
@@ -17,7 +17,7 @@ pub enum Source {
 
 // The values that a statement may read: so many that its block begins with, each the sum of `width`
 // variables, then those of the statements from `base` on. The first `drawn` variables may be drawn.
-#[derive(Drop)]
+#[derive(Clone, Copy)]
 pub struct Scope {
     pub begins: usize,
     pub width: usize,

@@ -1,5 +1,7 @@
 // Runs the published tables and the stored texts and prints what comes out, one case to a line. The
 // texts come from standard input; the first is that of the S-box.
+#![tactic(auto)]
+
 mod cases;
 mod lists;
 mod records;

@@ -20,14 +20,14 @@ const DEFAULT_START: u32 = 1;
 const STEP: u32 = 0x9e3779b9;
 
 // The bytes of one trial, and the number after them.
-#[derive(Drop)]
+#[derive(Clone, Copy)]
 pub struct Trial {
     pub bytes: [u8; MOST_VARIABLES],
     pub next: u32,
 }
 
 // Whether a trial differs; how many were made, and the bytes of the last.
-#[derive(Drop)]
+#[derive(Clone, Copy)]
 pub struct Tried {
     pub found: bool,
     pub made: usize,
