@@ -1,0 +1,16 @@
+-- The invariant: the separator that is looked for is the first one from `i` on. Assumes nothing.
+use Prim.Native.Nat.{◌≤◌, ◌-◌, ◌+◌}
+use Rattle.tokens.proofs.Laws.Scan.{until-pass, until_stop, until-done}
+use Rattle.tokens.specs.Split.{before}
+use borrow.Author.Rules.{rules}
+use borrow.Author.Tests.{eq-eqb, ne_eqb}
+use lib.ListN.{length, drop}
+use mathlib.Core.Path.{◌≡◌, refl}
+use native.Mathlib.Omega.{arith}
+use Rattle.tokens.proofs.bytes.find.Given as goal
+
+abbrev pub invariant-loop-i : goal.invariant-loop-i
+invariant-loop-i l = (l.i ≤ length l.s) × (l.at + before l.sep (drop l.at l.s) ≡ l.i + before l.sep (drop l.i l.s))
+
+abbrev pub decreases-loop-i : goal.decreases-loop-i
+decreases-loop-i l = length l.s - l.i
