@@ -1,0 +1,23 @@
+-- The measures are no greater than where the second part ends. Assumes nothing.
+use Rattle.grammar.proofs.Laws.Measured.{greater_le}
+use Prim.Native.Nat.{ℕ, ◌+◌}
+use borrow.Author.Rules.{rules}
+use mathlib.Core.Path.{ap}
+use native.Mathlib.Omega.{arith}
+use Rattle.grammar.proofs.formula.joined.Goals as goal
+
+pub overflow_add-result : goal.overflow_add-result
+overflow_add-result c =
+    let a = c.args.a in
+    let b = c.args.b in
+    omega (arith, greater_le a.depth b.depth (a.operations + b.operations) (omega arith) (omega arith))
+
+pub returns : goal.returns
+returns c =
+    let d = c in
+    ap (λ (n : ℕ). record {
+      ok = d.args.b.ok;
+      end = d.args.b.end;
+      depth = n + 1;
+      operations = d.args.a.operations + d.args.b.operations + 1;
+    }) c.greater-depth.ensures

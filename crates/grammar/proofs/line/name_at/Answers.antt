@@ -1,0 +1,19 @@
+-- The operand of the field is a name, or the field is none. Assumes nothing.
+use Rattle.grammar.proofs.Laws.Fields.{operand-name}
+use borrow.Author.Rules.{rules}
+use Rattle.grammar.proofs.line.name_at.Goals as goal
+
+pub returns-in-Name : goal.returns-in-Name
+returns-in-Name c =
+    let d = c in
+    operand-name d.args.s.now _ d.term_at.ensures c.in-Name.is
+
+pub returns-in-Byte : goal.returns-in-Byte
+returns-in-Byte c =
+    let d = c in
+    operand-name d.args.s.now _ d.term_at.ensures c.in-Byte.is
+
+pub returns-in-Bad : goal.returns-in-Bad
+returns-in-Bad c =
+    let d = c in
+    operand-name d.args.s.now _ d.term_at.ensures c.in-Bad.is

@@ -1,0 +1,6 @@
+-- Both operands are read by their form. Assumes nothing.
+use borrow.Author.Rules.{rules}
+use Rattle.grammar.proofs.record.two_form.Goals as goal
+
+pub returns : goal.returns
+returns c = simp (← c.term_field.ensures, ← c.term_field-2.ensures)
