@@ -4,7 +4,6 @@ use Rattle.std.specs.Prelude.{ℕ, ◌≤◌, ◌≡◌, false, cond, List, map 
 use Rattle.std.proofs.Math.Option.{Option, none, some}
 use Rattle.tokens.specs.Answer.{number_at}
 use Rattle.tokens.specs.declared.word.Word.{Word}
-use Rattle.tokens.specs.declared.word.Word.TheVariants as Word
 use Rattle.grammar.specs.declared.line.Line.{Line}
 use Rattle.grammar.specs.declared.lists.Columns.{Columns}
 use Rattle.grammar.specs.declared.lists.Outputs.{Outputs}
@@ -14,7 +13,6 @@ use Rattle.grammar.specs.declared.record.Rec.TheVariants.{Result, Masked, Output
 use Rattle.grammar.specs.declared.record.FormRead.{FormRead}
 use Rattle.grammar.specs.declared.record.FormRead.TheVariants.{Set, Two, App, Rand}
 use Rattle.grammar.specs.declared.record.Binary.{Binary}
-use Rattle.grammar.specs.declared.record.Binary.TheVariants as Binary
 use Rattle.tokens.specs.Limits.{most_shares}
 use Rattle.tokens.specs.Token.{◌>>=◌, Name, Term, read_hex, read_name}
 use Rattle.grammar.specs.Line.{name_in}

@@ -1,7 +1,6 @@
 -- The measures are no greater than where the second part ends. Assumes nothing.
 use Rattle.grammar.proofs.Laws.Measured.{greater_le}
 use Prim.Native.Nat.{ℕ, ◌+◌}
-use borrow.Author.Rules.{rules}
 use mathlib.Core.Path.{ap}
 use native.Mathlib.Omega.{arith}
 use Rattle.grammar.proofs.formula.joined.Goals as goal

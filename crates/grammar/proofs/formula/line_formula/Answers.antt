@@ -7,7 +7,6 @@ use Rattle.grammar.specs.Measured.{MeasureIs}
 use Rattle.grammar.specs.Record.{field}
 use Rattle.grammar.specs.Recorded.{formula_of}
 use Rattle.tokens.specs.declared.word.Word.TheVariants as Word
-use borrow.Author.Rules.{rules}
 use mathlib.Core.Option.{Option}
 use mathlib.Core.Path.{sym, ap, subst, ◌∙◌}
 use Rattle.grammar.proofs.formula.line_formula.Goals as goal

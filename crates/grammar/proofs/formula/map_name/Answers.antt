@@ -8,7 +8,6 @@ use Rattle.tokens.specs.Split.{until}
 use Rattle.grammar.specs.Formula.{front}
 use Rattle.tokens.specs.declared.token.NameForm.{NameForm}
 use Prim.Native.Nat.{ℕ, ◌+◌}
-use borrow.Author.Rules.{rules}
 use lib.ListN.{drop}
 use mathlib.Core.Bool.{Bool}
 use mathlib.Core.List.{List}

@@ -5,7 +5,6 @@ use Rattle.tokens.specs.Answer.{term_read}
 use Rattle.tokens.specs.Token.{is_some, read_term}
 use Rattle.tokens.specs.declared.token.TermForm.{TermForm}
 use Prim.Native.Nat.{ℕ, ◌-◌}
-use borrow.Author.Rules.{rules}
 use lib.ListN.{take, drop}
 use mathlib.Core.Bool.{Bool}
 use mathlib.Core.List.{List}

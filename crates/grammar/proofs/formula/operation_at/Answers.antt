@@ -1,6 +1,5 @@
 -- The ( stands at the mark, or not. Assumes nothing.
 use Rattle.grammar.proofs.Laws.Measured.{operation_opened, operation_none}
-use borrow.Author.Rules.{rules}
 use mathlib.Core.Path.{sym, ◌∙◌}
 use native.Mathlib.Omega.{arith}
 use Rattle.grammar.proofs.formula.operation_at.Goals as goal

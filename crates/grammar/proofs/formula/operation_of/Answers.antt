@@ -1,7 +1,6 @@
 -- At each `return` the comparisons so far say which operation it is. Assumes nothing.
 use Rattle.tokens.specs.Ascii.{ascii}
 use Rattle.grammar.specs.Formula.{operation_of}
-use borrow.Author.Rules.{rules}
 use mathlib.Core.Path.{sym, ◌∙◌}
 use Rattle.grammar.proofs.formula.operation_of.Goals as goal
 

@@ -1,7 +1,6 @@
 -- The byte stands behind what was read, or not. Assumes nothing.
 use Rattle.grammar.specs.Measured.{passed_over}
 use Rattle.grammar.proofs.Laws.Measured.{stands-inside}
-use borrow.Author.Rules.{rules}
 use mathlib.Core.Path.{sym, ◌∙◌}
 use native.Mathlib.Omega.{arith}
 use Rattle.grammar.proofs.formula.passed.Goals as goal

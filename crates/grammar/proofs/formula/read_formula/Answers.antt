@@ -1,6 +1,5 @@
 -- The formula ends where the field does, or not. Assumes nothing.
 use Rattle.grammar.proofs.Laws.Paired.{field-read, field-not}
-use borrow.Author.Rules.{rules}
 use Rattle.grammar.proofs.formula.read_formula.Goals as goal
 
 pub returns-then-r-f : goal.returns-then-r-f

@@ -1,6 +1,5 @@
 -- The place is inside or not. Assumes nothing.
 use Rattle.grammar.specs.Measured.{stands_at}
-use borrow.Author.Rules.{rules}
 use borrow.Author.Tests.{lt-ltb, le-ltb}
 use Rattle.grammar.proofs.formula.stands.Goals as goal
 

@@ -2,7 +2,6 @@
 use Prim.Native.Nat.{ℕ}
 use Rattle.tokens.specs.Answer.{number_read}
 use Rattle.tokens.specs.Token.{read_count}
-use borrow.Author.Rules.{rules}
 use mathlib.Core.List.{List}
 use mathlib.Core.Path.{ap, ◌∙◌}
 use Rattle.grammar.proofs.line.count_field.Goals as goal

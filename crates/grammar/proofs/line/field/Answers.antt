@@ -1,7 +1,6 @@
 -- The span of the piece in its line, moved to where the line stands. Assumes nothing.
 use Rattle.grammar.proofs.Laws.Fields.{span_in}
 use Rattle.grammar.specs.Line.{pieces_in}
-use borrow.Author.Rules.{rules}
 use Rattle.grammar.proofs.line.field.Goals as goal
 
 pub returns : goal.returns

@@ -1,6 +1,5 @@
 -- The operand of the field is a name, or the field is none. Assumes nothing.
 use Rattle.grammar.proofs.Laws.Fields.{operand-name}
-use borrow.Author.Rules.{rules}
 use Rattle.grammar.proofs.line.name_at.Goals as goal
 
 pub returns-in-Name : goal.returns-in-Name

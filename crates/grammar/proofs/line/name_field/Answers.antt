@@ -1,6 +1,5 @@
 -- The name of the field's bytes, at the place of the field. Assumes nothing.
 use Rattle.tokens.specs.Token.{read_name}
-use borrow.Author.Rules.{rules}
 use mathlib.Core.Path.{ap, ◌∙◌}
 use Rattle.grammar.proofs.line.name_field.Goals as goal
 

@@ -1,7 +1,6 @@
 -- The name of the field, where it has no part. Assumes nothing.
 use Rattle.grammar.proofs.Laws.Fields.{plain-yes, plain_no, plain-none}
 use Rattle.grammar.specs.Line.{name_at}
-use borrow.Author.Rules.{rules}
 use mathlib.Core.Path.{sym, ap, ◌∙◌}
 use Rattle.grammar.proofs.line.plain_field.Goals as goal
 

@@ -6,7 +6,6 @@ use Prim.Native.Nat.{ℕ}
 use lib.ListN.{take, drop}
 use mathlib.Core.Path.{◌≡◌, ap, sym, ◌∙◌}
 use mathlib.Core.List.{List}
-use borrow.Author.Rules.{rules}
 use Rattle.grammar.proofs.line.term_at.Goals as goal
 use Rattle.grammar.proofs.line.term_at.Goals.{After-term}
 

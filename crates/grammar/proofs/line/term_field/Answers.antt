@@ -1,6 +1,5 @@
 -- The operand of the field's bytes, at the place of the field. Assumes nothing.
 use Rattle.tokens.specs.Token.{read_term}
-use borrow.Author.Rules.{rules}
 use mathlib.Core.Path.{ap, ◌∙◌}
 use Rattle.grammar.proofs.line.term_field.Goals as goal
 

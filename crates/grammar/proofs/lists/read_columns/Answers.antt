@@ -1,4 +1,4 @@
-use Prim.Native.Nat.{ℕ, ◌+◌, ◌-◌, ◌≤◌, ◌<◌}
+use Prim.Native.Nat.{ℕ, ◌+◌, ◌<◌}
 use Rattle.tokens.proofs.Laws.Answers.{number_back}
 use Rattle.grammar.proofs.Laws.Each.{onto, onto-none, each-pass, each_fail, each-done}
 use Rattle.grammar.proofs.Laws.Each.{counted-right, counted_wrong}
@@ -8,8 +8,7 @@ use Rattle.tokens.specs.Answer.{number_at}
 use Rattle.grammar.specs.Recorded.{columns_of}
 use Rattle.tokens.specs.Token.{read_hex}
 use Rattle.tokens.specs.declared.word.Word.TheVariants as Word
-use borrow.Author.Rules.{rules}
-use borrow.Author.Tests.{eqb-true, not-true, not-false}
+use borrow.Author.Tests.{eqb-true}
 use lib.ListN.{length, take, drop, set, length-set}
 use lib.Seq.{take-suc-set, take_all}
 use mathlib.Core.Bool.{true}
@@ -26,7 +25,7 @@ returns-then-not-fits_word c =
     let a = c.args in
     let ps = pieces_in a.s.now a.l in
     counted_wrong Word.Map ps (each read_hex (drop 3 ps))
-    (sym c.fits_word.ensures ∙ not-true c.fits_word.result c.if-not-fits_word.true)
+    (sym c.fits_word.ensures ∙ c.if-not-fits_word.true)
 
 pub loop-j-init : goal.loop-j-init
 unfolding columns_of
@@ -35,7 +34,7 @@ loop-j-init c =
     let ps = pieces_in a.s.now a.l in
     let o = each read_hex (drop 3 ps) in
     let fits : may_have Word.Map (length ps) ≡ true =
-    sym c.fits_word.ensures ∙ not-false c.fits_word.result c.if-not-fits_word.false in
+    sym c.fits_word.ensures ∙ c.if-not-fits_word.false in
     (omega arith, refl, eqb-true (length ps) 11 fits, counted-right Word.Map ps o fits ∙ onto-none o)
 
 pub returns-in-Bad : goal.returns-in-Bad

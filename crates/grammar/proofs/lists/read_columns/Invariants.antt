@@ -1,24 +1,12 @@
 -- The invariant: the first `j` columns are read. Assumes nothing.
-use Prim.Native.Nat.{ℕ, ◌+◌, ◌-◌, ◌≤◌, ◌<◌}
-use Rattle.tokens.proofs.Laws.Answers.{number_back}
-use Rattle.grammar.proofs.Laws.Each.{onto, onto-none, each-pass, each_fail, each-done}
-use Rattle.grammar.proofs.Laws.Each.{counted-right, counted_wrong}
+use Prim.Native.Nat.{◌+◌, ◌-◌, ◌≤◌}
+use Rattle.grammar.proofs.Laws.Each.{onto}
 use Rattle.grammar.specs.Line.{pieces_in}
-use Rattle.grammar.specs.Record.{each, field, may_have}
-use Rattle.tokens.specs.Answer.{number_at}
+use Rattle.grammar.specs.Record.{each}
 use Rattle.grammar.specs.Recorded.{columns_of}
 use Rattle.tokens.specs.Token.{read_hex}
-use Rattle.tokens.specs.declared.word.Word.TheVariants as Word
-use borrow.Author.Rules.{rules}
-use borrow.Author.Tests.{eqb-true, not-true, not-false}
-use lib.ListN.{length, take, drop, set, length-set}
-use lib.Seq.{take-suc-set, take_all}
-use mathlib.Core.Bool.{true}
-use mathlib.Core.List.{List, [], ◌∷◌, ◌++◌}
-use mathlib.Core.Option.{some}
-use mathlib.Core.Path.{◌≡◌, refl, sym, ap, ◌∙◌}
-use native.Mathlib.Numerals.{add-one}
-use native.Mathlib.Omega.{arith}
+use lib.ListN.{length, take, drop}
+use mathlib.Core.Path.{◌≡◌}
 use Rattle.grammar.proofs.lists.read_columns.Given as goal
 
 abbrev pub invariant-loop-j : goal.invariant-loop-j

@@ -1,4 +1,4 @@
-use Prim.Native.Nat.{ℕ, ◌+◌, ◌-◌, ◌≤◌, ◌<◌}
+use Prim.Native.Nat.{ℕ, ◌+◌, ◌<◌}
 use Rattle.grammar.proofs.Laws.Each.{onto, onto-none, each-pass, each_fail, each-done}
 use Rattle.grammar.proofs.Laws.Each.{counted-right, counted_wrong, none_read}
 use Rattle.tokens.proofs.Laws.Flags.{and-true}
@@ -8,8 +8,7 @@ use Rattle.grammar.specs.Record.{each, may_have}
 use Rattle.grammar.specs.Recorded.{names_of, names_read}
 use Rattle.tokens.specs.Token.{Name, read_name}
 use Rattle.tokens.specs.declared.word.Word.TheVariants as Word
-use borrow.Author.Rules.{rules}
-use borrow.Author.Tests.{leb-true, not-true, not-false}
+use borrow.Author.Tests.{leb-true}
 use lib.Dec.{leb}
 use lib.ListN.{length, take, drop, set, length-set}
 use lib.Seq.{take-suc-set}
@@ -19,12 +18,13 @@ use mathlib.Core.Path.{◌≡◌, sym, ap, ◌∙◌}
 use native.Mathlib.Numerals.{add-one}
 use native.Mathlib.Omega.{arith}
 use Rattle.grammar.proofs.lists.read_outputs.Goals as goal
+use Rattle.grammar.proofs.lists.read_outputs.Goals.{After-may_have}
 
 -- whether the line has a number of fields that an output may have
-told : (d : tie.After-may-have invariant-loop decreases-loop)
-    → (let a = d.before.before.before.before.before.args in
-    d.may-have.result ≡ may_have Word.Output (length (pieces_in a.s.now a.l)))
-told d = d.may-have.ensures ∙ ap (may_have Word.Output) d.before.piece-count.ensures
+told : (d : After-may_have)
+    → (let a = d.args in
+    d.may_have.result ≡ may_have Word.Output (length (pieces_in a.s.now a.l)))
+told d = d.may_have.ensures ∙ ap (may_have Word.Output) d.piece_count-n.ensures
 
 pub returns-then-not-may_have : goal.returns-then-not-may_have
 unfolding names_of
@@ -34,7 +34,7 @@ returns-then-not-may_have c =
     let ps = pieces_in a.s.now a.l in
     none_read a.s.now a.l d.no_outputs-none.result d.no_outputs-none.ensures
     (counted_wrong Word.Output ps (each read_name (drop 1 ps))
-    (sym (told (goal.at.returns-then-not-may_have c).After-may_have) ∙ not-true c.may_have.result c.if-not-may_have.true))
+    (sym (told (goal.at.returns-then-not-may_have c).After-may_have) ∙ c.if-not-may_have.true))
 
 pub loop-j-init : goal.loop-j-init
 unfolding names_of
@@ -45,7 +45,7 @@ loop-j-init c =
     let size = d.piece_count-n.ensures in
     let o = each read_name (drop 1 ps) in
     let fits : may_have Word.Output (length ps) ≡ true =
-    sym (told (goal.at.loop-j-init c).After-may_have) ∙ not-false c.may_have.result c.if-not-may_have.false in
+    sym (told (goal.at.loop-j-init c).After-may_have) ∙ c.if-not-may_have.false in
     let ends = and-true (leb 2 (length ps)) (leb (length ps) 9) fits in (
       omega (arith, size, leb-true 2 (length ps) ends.0),
       d.no_outputs-none.ensures.size,

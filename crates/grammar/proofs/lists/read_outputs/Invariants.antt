@@ -1,24 +1,14 @@
 -- The invariant: the first `j` names are read. Assumes nothing.
-use Prim.Native.Nat.{ℕ, ◌+◌, ◌-◌, ◌≤◌, ◌<◌}
-use Rattle.grammar.proofs.Laws.Each.{onto, onto-none, each-pass, each_fail, each-done}
-use Rattle.grammar.proofs.Laws.Each.{counted-right, counted_wrong, none_read}
-use Rattle.tokens.proofs.Laws.Flags.{and-true}
-use Rattle.grammar.specs.Line.{pieces_in, name_at}
+use Prim.Native.Nat.{◌+◌, ◌-◌, ◌≤◌}
+use Rattle.grammar.proofs.Laws.Each.{onto}
+use Rattle.grammar.specs.Line.{pieces_in}
 use Rattle.grammar.specs.Line.{name_in}
-use Rattle.grammar.specs.Record.{each, may_have}
-use Rattle.grammar.specs.Recorded.{names_of, names_read}
-use Rattle.tokens.specs.Token.{Name, read_name}
-use Rattle.tokens.specs.declared.word.Word.TheVariants as Word
-use borrow.Author.Rules.{rules}
-use borrow.Author.Tests.{leb-true, not-true, not-false}
-use lib.Dec.{leb}
-use lib.ListN.{length, take, drop, set, length-set}
-use lib.Seq.{take-suc-set}
-use mathlib.Core.Bool.{true}
-use mathlib.Core.List.{List, [], ◌∷◌, ◌++◌, map, map-append}
-use mathlib.Core.Path.{◌≡◌, sym, ap, ◌∙◌}
-use native.Mathlib.Numerals.{add-one}
-use native.Mathlib.Omega.{arith}
+use Rattle.grammar.specs.Record.{each}
+use Rattle.grammar.specs.Recorded.{names_of}
+use Rattle.tokens.specs.Token.{read_name}
+use lib.ListN.{length, take, drop}
+use mathlib.Core.List.{map}
+use mathlib.Core.Path.{◌≡◌}
 use Rattle.grammar.proofs.lists.read_outputs.Given as goal
 
 abbrev pub invariant-loop-j : goal.invariant-loop-j

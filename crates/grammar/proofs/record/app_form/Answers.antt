@@ -1,5 +1,4 @@
 -- The map and the operand are each read by their form. Assumes nothing.
-use borrow.Author.Rules.{rules}
 use Rattle.grammar.proofs.record.app_form.Goals as goal
 
 pub returns : goal.returns

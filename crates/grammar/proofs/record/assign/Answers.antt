@@ -1,6 +1,5 @@
 -- The name of field 1 is read by its form. Assumes nothing.
 use Rattle.grammar.specs.Recorded.{record_in}
-use borrow.Author.Rules.{rules}
 use Rattle.grammar.proofs.record.assign.Goals as goal
 
 pub returns : goal.returns

@@ -1,6 +1,5 @@
 -- The number of pieces decides. Assumes nothing.
 use Rattle.grammar.specs.Record.{may_have}
-use borrow.Author.Rules.{rules}
 use mathlib.Core.Path.{ap, ◌∙◌}
 use Rattle.grammar.proofs.record.fits_word.Goals as goal
 

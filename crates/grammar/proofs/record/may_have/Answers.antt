@@ -1,5 +1,4 @@
 -- In each arm the word is known, and with it its number of fields. Assumes nothing.
-use borrow.Author.Rules.{rules}
 use borrow.Author.Tests.{lt-leb, le-leb}
 use Rattle.grammar.proofs.record.may_have.Goals as goal
 

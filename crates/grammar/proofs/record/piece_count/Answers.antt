@@ -2,7 +2,6 @@
 use Prim.Native.Nat.{ℕ}
 use Rattle.grammar.specs.Line.{pieces_in}
 use Rattle.tokens.specs.Split.{pieces}
-use borrow.Author.Rules.{rules}
 use lib.ListN.{length}
 use mathlib.Core.List.{List}
 use mathlib.Core.Path.{ap, ◌∙◌}

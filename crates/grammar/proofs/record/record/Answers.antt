@@ -13,13 +13,12 @@ use mathlib.Core.Bool.{Bool, true, cond}
 use mathlib.Core.List.{List}
 use mathlib.Core.Option.{Option, none, some}
 use mathlib.Core.Path.{◌≡◌, refl, sym, ap, ◌∙◌}
-use borrow.Author.Rules.{rules}
 use Rattle.grammar.proofs.record.record.Goals as goal
 use Rattle.grammar.proofs.record.record.Goals.{Then-fits_word}
 
 -- the pieces of the line
-abbrev ps : tie.Then1 → List (List ℕ)
-ps d = let a = d.before.before.before.args in pieces_in a.s.now a.l
+abbrev ps : Then-fits_word → List (List ℕ)
+ps d = let a = d.args in pieces_in a.s.now a.l
 
 -- the line has a number of fields that its word may have
 module _ (d : Then-fits_word) {v : Word} (told : d.args.w ≡ v) where
@@ -45,7 +44,7 @@ returns-in-Shares c =
     let d = c in
     made (goal.at.returns-in-Shares c).Then-fits_word c.in-Shares.is
     (ap (λ (o : Option ℕ). o >>= λ k. some (shares k))
-    (number_back (read_count (field 1 (ps d))) c.count_field.ensures))
+    (number_back (read_count (field 1 (ps (goal.at.returns-in-Shares c).Then-fits_word))) c.count_field.ensures))
 
 pub returns-in-Map : goal.returns-in-Map
 unfolding record_in read_fields columns_of
@@ -56,7 +55,7 @@ returns-in-Map c =
     (simp (
       known (goal.at.returns-in-Map c).Then-fits_word told,
       ← c.plain_field.ensures,
-      ← (number_back (read_hex (field 2 (ps d))) c.hex_field.ensures),
+      ← (number_back (read_hex (field 2 (ps (goal.at.returns-in-Map c).Then-fits_word))) c.hex_field.ensures),
     ))
 
 pub returns-in-Input : goal.returns-in-Input

@@ -1,5 +1,4 @@
 -- Both operands are read by their form. Assumes nothing.
-use borrow.Author.Rules.{rules}
 use Rattle.grammar.proofs.record.two_form.Goals as goal
 
 pub returns : goal.returns
