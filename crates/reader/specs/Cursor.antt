@@ -2,7 +2,6 @@
 use Rattle.std.specs.Prelude.{ℕ, ◌+◌, ◌-◌, cond, List, ltb, length, drop}
 use Rattle.reader.specs.declared.cursor.Cursor.{Cursor}
 use Rattle.reader.specs.declared.cursor.Ahead.{Ahead}
-use Rattle.reader.specs.declared.cursor.Ahead.TheVariants as Ahead
 use Rattle.tokens.specs.Ascii.{line_feed}
 use Rattle.tokens.specs.Split.{before}
 

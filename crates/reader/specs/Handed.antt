@@ -3,18 +3,12 @@ use Rattle.std.specs.Prelude.{ℕ, zero, suc, ◌+◌, ◌≡◌, Bool, true, fa
 use Rattle.std.proofs.Math.Option.{Option, none, some}
 use Rattle.std.specs.Borrow.{Bor}
 use Rattle.tokens.specs.declared.token.Number.{Number}
-use Rattle.tokens.specs.declared.token.Number.TheVariants as Number
 use Rattle.grammar.specs.declared.line.Line.{Line}
 use Rattle.grammar.specs.declared.line.NameRead.{NameRead}
-use Rattle.grammar.specs.declared.line.NameRead.TheVariants as NameRead
 use Rattle.grammar.specs.declared.line.TermRead.{TermRead}
-use Rattle.grammar.specs.declared.line.TermRead.TheVariants as TermRead
 use Rattle.grammar.specs.declared.record.Rec.{Rec}
-use Rattle.grammar.specs.declared.record.Rec.TheVariants as Rec
 use Rattle.grammar.specs.declared.record.FormRead.{FormRead}
-use Rattle.grammar.specs.declared.record.FormRead.TheVariants as FormRead
 use Rattle.reader.specs.declared.handed.Handed.{Handed}
-use Rattle.reader.specs.declared.handed.Handed.TheVariants as Handed
 use Rattle.reader.specs.declared.reader.Reader.{Reader}
 use Rattle.tokens.specs.Limits.{most_depth}
 use Rattle.tokens.specs.Token.{◌>>=◌, is_some}

@@ -5,7 +5,6 @@ use Rattle.std.proofs.Math.Option.{Option, none, some}
 use Rattle.grammar.specs.declared.line.Line.{Line}
 use Rattle.reader.specs.declared.cursor.Cursor.{Cursor}
 use Rattle.reader.specs.declared.cursor.Ahead.{Ahead}
-use Rattle.reader.specs.declared.cursor.Ahead.TheVariants as Ahead
 use Rattle.tokens.specs.Ascii.{all, allowed}
 use Rattle.grammar.specs.Line.{pieces_in, field_in}
 use Rattle.grammar.specs.Record.{Record, record_for, nests}

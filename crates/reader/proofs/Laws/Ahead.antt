@@ -10,7 +10,6 @@ use borrow.Author.Tests.{ltb-true, ltb-false}
 use Rattle.grammar.specs.declared.line.Line.{Line}
 use Rattle.reader.specs.declared.cursor.Cursor.{Cursor}
 use Rattle.reader.specs.declared.cursor.Ahead.{Ahead}
-use Rattle.reader.specs.declared.cursor.Ahead.TheVariants as Ahead
 use Rattle.tokens.specs.Ascii.{line_feed}
 use Rattle.tokens.specs.Split.{before}
 use Rattle.reader.specs.Cursor.{line_end, look_at}

@@ -14,12 +14,9 @@ use Rattle.tokens.specs.declared.word.Word.{Word}
 use Rattle.grammar.specs.declared.line.Line.{Line}
 use Rattle.grammar.specs.declared.line.NameRead.TheVariants as NameRead
 use Rattle.grammar.specs.declared.line.TermRead.{TermRead}
-use Rattle.grammar.specs.declared.line.TermRead.TheVariants as TermRead
 use Rattle.grammar.specs.declared.record.Binary.{Binary}
 use Rattle.grammar.specs.declared.record.Rec.{Rec}
-use Rattle.grammar.specs.declared.record.Rec.TheVariants as Rec
 use Rattle.grammar.specs.declared.record.FormRead.{FormRead}
-use Rattle.grammar.specs.declared.record.FormRead.TheVariants as FormRead
 use Rattle.reader.specs.declared.cursor.Cursor.{Cursor}
 use Rattle.reader.specs.declared.cursor.Ahead.{Ahead}
 use Rattle.tokens.specs.Ascii.{all, allowed}

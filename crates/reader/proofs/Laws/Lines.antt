@@ -13,7 +13,6 @@ use borrow.Author.Tests.{lt-ltb, le-ltb, ltb-true, ltb-false}
 use Rattle.grammar.specs.declared.line.Line.{Line}
 use Rattle.reader.specs.declared.cursor.Cursor.{Cursor}
 use Rattle.reader.specs.declared.cursor.Ahead.{Ahead}
-use Rattle.reader.specs.declared.cursor.Ahead.TheVariants as Ahead
 use Rattle.tokens.specs.Ascii.{line_feed, all, allowed}
 use Rattle.tokens.specs.Split.{pieces}
 use Rattle.reader.specs.Cursor.{line_end, look_at}
