@@ -4,16 +4,13 @@ use Rattle.std.proofs.Math.Option.{Option, none, some}
 use Rattle.rules.specs.declared.types.Operand.{Operand}
 use Rattle.rules.specs.declared.types.Operand.TheVariants.{Place, Byte}
 use Rattle.rules.specs.declared.types.Op.{Op}
-use Rattle.rules.specs.declared.types.Op.TheVariants as Op
 use Rattle.lookup.specs.declared.names.Names.{Names}
 use Rattle.lookup.specs.declared.scope.NameFound.{NameFound}
 use Rattle.lookup.specs.declared.scope.TermFound.{TermFound}
 use Rattle.lookup.specs.declared.scope.FormFound.{FormFound}
 use Rattle.grammar.specs.declared.formula.Operation.{Operation}
-use Rattle.grammar.specs.declared.formula.Operation.TheVariants as Operation
 use Rattle.grammar.specs.declared.record.FormRead.{FormRead}
 use Rattle.grammar.specs.declared.record.Binary.{Binary}
-use Rattle.grammar.specs.declared.record.Binary.TheVariants as Binary
 use Rattle.tokens.specs.Token.{◌>>=◌, Name, Term, name}
 use Rattle.grammar.specs.Record.{Form}
 use Rattle.rules.specs.Scope.{given, place_of, missing, unknown_term, operand_in, unknown_form, op_in, drawn}

@@ -10,13 +10,10 @@ use lib.Seq.{drop-drop}
 use Rattle.tokens.specs.Ascii.{comma, closing}
 use Rattle.tokens.specs.Token.{Name}
 use Rattle.grammar.specs.declared.formula.Operation.{Operation}
-use Rattle.grammar.specs.declared.formula.Operation.TheVariants as Operation
-use Rattle.grammar.specs.declared.record.Binary.TheVariants as Binary
-use Rattle.grammar.specs.Formula.{Formula, operand, operations}
+use Rattle.grammar.specs.Formula.{Formula, operations}
 use Rattle.grammar.specs.Formula.{past, parsed}
 use Rattle.rules.specs.declared.types.Operand.TheVariants.{Place}
 use Rattle.rules.specs.declared.types.Op.{Op}
-use Rattle.rules.specs.declared.types.Op.TheVariants as Op
 use Rattle.lookup.specs.declared.compile.Compiled.{Compiled}
 use Rattle.rules.specs.Limits.{most_statements}
 use Rattle.rules.specs.Scope.{unknown_formula, value_of, compiled}

@@ -7,19 +7,16 @@ use mathlib.Core.Option.{Option, none, some, some-injective}
 use native.Mathlib.Omega.{arith}
 use lib.Dec.{eqb}
 use lib.ListN.{length, drop}
-use Rattle.tokens.specs.Ascii.{is_mark, comma}
+use Rattle.tokens.specs.Ascii.{is_mark}
 use Rattle.tokens.specs.Split.{until}
 use Rattle.tokens.specs.Token.{◌>>=◌, provided, Name, Term, read_name, read_plain, read_term}
 use Rattle.tokens.specs.Limits.{no_part}
 use Rattle.grammar.specs.declared.formula.Operation.{Operation}
-use Rattle.grammar.specs.declared.formula.Operation.TheVariants as Operation
 use Rattle.grammar.specs.declared.record.Binary.{Binary}
-use Rattle.grammar.specs.declared.record.Binary.TheVariants as Binary
 use Rattle.grammar.specs.Formula.{Formula, Parsed, operand, app, twofold, operations, front, rest, operation_at}
 use Rattle.grammar.specs.Formula.{map_at, operand_at, pair_at, level_for, level, parsed}
 use Rattle.rules.specs.declared.types.Operand.{Operand}
 use Rattle.rules.specs.declared.types.Operand.TheVariants.{Place}
-use Rattle.rules.specs.declared.types.Op.TheVariants as Op
 use Rattle.lookup.specs.declared.compile.Compiled.{Compiled}
 use Rattle.rules.specs.Limits.{most_statements}
 use Rattle.rules.specs.Scope.{place_of, missing, unknown_term, operand_in, unknown_formula, value_of, compiled}

@@ -10,7 +10,6 @@ use borrow.Author.Tests.{lt-ltb, le-ltb}
 use Rattle.rules.specs.declared.types.Operand.{Operand}
 use Rattle.rules.specs.declared.types.Operand.TheVariants.{Place, Byte}
 use Rattle.rules.specs.declared.types.Op.{Op}
-use Rattle.rules.specs.declared.types.Op.TheVariants as Op
 use Rattle.tokens.specs.Byte.{Each}
 use Rattle.lookup.specs.Coded.{byte_from, operand_code, kind_code, left_code, right_code, put_codes, put_op, written}
 use Rattle.lookup.specs.Coded.{operand_of, op_of, op_at}

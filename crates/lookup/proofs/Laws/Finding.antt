@@ -8,22 +8,17 @@ use mathlib.Core.List.{List}
 use mathlib.Core.Option.{Option, none, some}
 use Rattle.grammar.specs.declared.line.NameRef.{NameRef}
 use Rattle.grammar.specs.declared.line.NameRead.{NameRead}
-use Rattle.grammar.specs.declared.line.NameRead.TheVariants as NameRead
 use Rattle.grammar.specs.declared.line.TermRead.{TermRead}
-use Rattle.grammar.specs.declared.line.TermRead.TheVariants as TermRead
 use Rattle.grammar.specs.declared.formula.Operation.{Operation}
-use Rattle.grammar.specs.declared.formula.Operation.TheVariants as Operation
 use Rattle.grammar.specs.declared.record.Binary.{Binary}
 use Rattle.grammar.specs.declared.record.Binary.TheVariants.{Xor, Mul}
 use Rattle.grammar.specs.declared.record.FormRead.{FormRead}
-use Rattle.grammar.specs.declared.record.FormRead.TheVariants as FormRead
 use Rattle.tokens.specs.Token.{◌>>=◌, Name, Term}
 use Rattle.grammar.specs.Record.{set, app}
 use Rattle.grammar.specs.Line.{name_in, name_at, term_at}
 use Rattle.grammar.specs.Recorded.{binary, form_at}
 use Rattle.rules.specs.declared.types.Operand.TheVariants.{Place, Byte}
 use Rattle.rules.specs.declared.types.Op.{Op}
-use Rattle.rules.specs.declared.types.Op.TheVariants as Op
 use Rattle.lookup.specs.declared.names.Names.{Names}
 use Rattle.lookup.specs.declared.scope.NameFound.{NameFound}
 use Rattle.lookup.specs.declared.scope.TermFound.{TermFound}

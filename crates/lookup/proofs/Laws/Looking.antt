@@ -9,13 +9,10 @@ use Rattle.tokens.specs.Ascii.{is_mark}
 use Rattle.tokens.specs.Split.{until}
 use Rattle.tokens.specs.Token.{read_name, read_term}
 use Rattle.tokens.proofs.Laws.Scan.{until_le}
-use Rattle.grammar.specs.declared.formula.Operation.TheVariants as Operation
-use Rattle.grammar.specs.declared.record.Binary.TheVariants as Binary
 use Rattle.grammar.specs.declared.line.NameRead.{NameRead}
 use Rattle.grammar.specs.declared.line.TermRead.{TermRead}
 use Rattle.grammar.specs.Line.{name_at, term_at}
-use Rattle.grammar.specs.Formula.{operand, front}
-use Rattle.rules.specs.declared.types.Op.TheVariants as Op
+use Rattle.grammar.specs.Formula.{front}
 use Rattle.lookup.specs.declared.scope.TermFound.{TermFound}
 use Rattle.lookup.specs.declared.compile.Lookup.{Lookup}
 use Rattle.lookup.specs.Found.{term_found, as_term}

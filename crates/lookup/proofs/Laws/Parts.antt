@@ -9,11 +9,8 @@ use lib.Dec.{eqb}
 use lib.ListN.{length, drop}
 use Rattle.tokens.specs.Ascii.{comma, closing}
 use Rattle.tokens.specs.Token.{◌>>=◌, provided}
-use Rattle.grammar.specs.declared.formula.Operation.TheVariants as Operation
-use Rattle.grammar.specs.declared.record.Binary.TheVariants as Binary
 use Rattle.grammar.specs.Formula.{Formula, Parsed, operations}
 use Rattle.grammar.specs.Formula.{past, closed, pair_at, parsed}
-use Rattle.rules.specs.declared.types.Op.TheVariants as Op
 use Rattle.rules.specs.Limits.{most_statements}
 use Rattle.lookup.specs.Compiled.{Room}
 
