@@ -23,7 +23,6 @@ use Rattle.rules.specs.Stated.{with_origin, with_masked}
 use Rattle.rules.specs.Scope.{given, unknown_form, op_in}
 use Rattle.rules.specs.Faults.{block, repeats, reads_unknown, exceeds, miscounts}
 use Rattle.rules.specs.Added.{added}
-use Rattle.rules.specs.Scope.{drawn}
 use Rattle.lookup.specs.Names.{names_in}
 use Rattle.lines.specs.Known.{Arrays, kept, state_in, Sound, Sized, map_names, block_names}
 use Rattle.lines.specs.Added.{StatementsFit, crowded, stated}

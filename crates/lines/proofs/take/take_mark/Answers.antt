@@ -6,22 +6,15 @@ use Rattle.rules.specs.Faults.{repeats, reads_unknown, exceeds, miscounts}
 use Rattle.rules.specs.Added.{added}
 use Rattle.lines.proofs.Laws.Taking.{took_set}
 use mathlib.Core.Path.{refl}
-use borrow.Author.Rules.{rules}
-use Rattle.lines.proofs.take.take_mark.Statement.{statement}
-use Rattle.lines.proofs.take.take_mark.Tie as tie
+use Rattle.lines.proofs.take.take_mark.Goals as goal
 
-first-fault-requires : tie.Need-first-fault-requires
-first-fault-requires c κs = search rules
-
-make-requires : tie.Need-make-requires
-make-requires c κs = search rules
-
-returns : tie.Need-returns
+pub returns : goal.returns
 unfolding record_in repeats reads_unknown exceeds miscounts added nests
-returns c = λ s t.
-    let here = c.before.before.args.here in
-    let K = c.before.before.requires in
-    let q = c.before.first-fault.ensures in (
+returns c =
+    λ s t.
+    let here = c.args.here in
+    let K = c.requires in
+    let q = c.first_fault-e.ensures in (
       λ codes.
           took_set s t here K origin refl q here.known refl K
           (λ x z. record { repeats = refl; unknown = refl; exceeds = refl; miscounts = refl; shallow = refl })
@@ -33,11 +26,3 @@ returns c = λ s t.
           (λ x. refl)
           c.make.ensures,
     )
-
-pub take-mark-spec : {M : Type 1} → statement M
-take-mark-spec =
-    tie.close
-    (tie.spec
-    first-fault-requires
-    make-requires
-    returns)

@@ -1,0 +1,81 @@
+-- The faults of a map, or one map more. Assumes nothing.
+use Rattle.grammar.specs.Record.{nests}
+use mathlib.Core.Option.{none, some}
+use borrow.Author.Tests.{ltb-false}
+use lib.Dec.{ltb}
+use Rattle.grammar.specs.Recorded.{columns_of, map_in}
+use Rattle.grammar.specs.Line.{pieces_in, name_in}
+use Rattle.grammar.specs.Record.{map}
+use Rattle.rules.specs.Faults.{repeats, reads_unknown, exceeds, miscounts}
+use Rattle.rules.specs.Added.{added}
+use Rattle.rules.specs.Limits.{most_maps}
+use Rattle.lines.specs.Known.{kept, state_in}
+use Rattle.lines.proofs.Laws.Known.{steady}
+use Rattle.lines.proofs.Laws.Kept.{map-means}
+use Rattle.lines.proofs.Laws.Taking.{no_faults, maps-length, took_bad, took_fault, took_grown}
+use native.Mathlib.Omega.{arith}
+use Prim.Native.Nat.{ℕ, ◌+◌, ◌<◌}
+use mathlib.Core.Path.{◌≡◌, refl, ap, sym, ◌∙◌}
+use Rattle.lines.proofs.declare.take_columns.Goals as goal
+
+pub returns-then-e-ne0 : goal.returns-then-e-ne0
+unfolding repeats reads_unknown exceeds miscounts state_in nests
+returns-then-e-ne0 c =
+    λ codes.
+    let d = c in
+    let k = d.args.here.known in
+    let s = d.args.s.now in
+    let t = d.args.t.now in
+    let x = name_in s d.args.x in
+    let R = c.read_columns-read in
+    let here : some R.result.bytes ≡ columns_of (pieces_in s d.args.here.line) =
+    sym (simp c.if-read.true) ∙ R.ensures in
+    took_fault s t d.args.here d.requires.sound (map x d.args.constant R.result.bytes)
+    (ap (map_in x d.args.constant) here) c.first_fault-e.ensures c.if-e-ne0.true
+    (λ y z. record {
+      repeats = c.is_given-given.ensures;
+      unknown = refl;
+      exceeds = ap (λ (i : ℕ). ltb most_maps (i + 1)) (sym (maps-length s (kept t k y) d.requires.sound z));
+      miscounts = refl;
+      shallow = refl;
+    }) c.make.ensures
+
+pub returns-then-read : goal.returns-then-read
+unfolding repeats reads_unknown exceeds miscounts added state_in nests
+returns-then-read c =
+    λ codes.
+    let b2 = c in
+    let b3 = c in
+    let d = c in
+    let k = d.args.here.known in
+    let K = d.requires.sound in
+    let s = d.args.s.now in
+    let t = d.args.t.now in
+    let x = name_in s d.args.x in
+    let R = c.read_columns-read in
+    let here : some R.result.bytes ≡ columns_of (pieces_in s d.args.here.line) =
+    sym (simp c.if-read.true) ∙ R.ensures in
+    let free = no_faults _ _ _ _ _ b3.first_fault-e.ensures b2.if-e-ne0.false in
+    let few : k.mapped < most_maps = omega (arith, ltb-false most_maps (k.mapped + 1) free.3) in
+    took_grown s t d.args.here K (map x d.args.constant R.result.bytes)
+    (ap (map_in x d.args.constant) here) _ (sym b2.if-e-ne0.false ∙ b3.first_fault-e.ensures) refl
+    (steady k K k.stage k.shares (k.mapped + 1) k.result k.outputs k.named K.shares
+    (omega (arith, few)) K.named K.apart) few tt
+    (λ y z. record {
+      repeats = c.is_given-given.ensures;
+      unknown = refl;
+      exceeds = ap (λ (i : ℕ). ltb most_maps (i + 1)) (sym (maps-length s (kept t k y) K z));
+      miscounts = refl;
+      shallow = refl;
+    })
+    (λ y z. map-means s (kept t k y) K z d.args.x _ _ few refl)
+
+pub returns : goal.returns
+returns c =
+    λ codes.
+    let d = c in
+    let s = d.args.s.now in
+    let R = c.read_columns-read in
+    let here : none ≡ columns_of (pieces_in s d.args.here.line) = sym (simp c.if-read.false) ∙ R.ensures in
+    took_bad s d.args.t.now d.args.here d.requires.sound
+    (ap (map_in (name_in s d.args.x) d.args.constant) here) c.make-2.ensures

@@ -1,0 +1,25 @@
+-- Its name is read, or it is refusal 5. Assumes nothing.
+use Rattle.grammar.specs.Recorded.{record_in}
+use Rattle.lines.proofs.Laws.Taking.{took_as, took_unread}
+use Rattle.grammar.specs.declared.record.Rec.TheVariants as rec
+use Rattle.grammar.specs.declared.line.NameRead.{NameRead}
+use mathlib.Core.Path.{refl, ap}
+use Rattle.lines.proofs.letting.take_let.Goals as goal
+
+pub returns-in-Name : goal.returns-in-Name
+unfolding record_in
+returns-in-Name c =
+    let d = c in
+    let F = c.take_formula in (
+      took_as d.args.s.now d.args.t.now d.args.here
+          (ap (λ (y : NameRead). rec.Let y) c.in-Name.is) F.ensures.0,
+      F.ensures.1,
+    )
+
+pub returns-in-Bad : goal.returns-in-Bad
+unfolding record_in
+returns-in-Bad c = let d = c in (
+  took_unread d.args.s.now d.args.t.now d.args.here d.requires.sound rec.Let
+      c.in-Bad.is refl c.make.ensures,
+  refl,
+)
