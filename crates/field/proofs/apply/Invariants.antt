@@ -1,17 +1,12 @@
 -- `field::apply` meets its contract. The loop's invariant: y is x without its i low bits, and the sum has the columns
 -- at those.
 -- Assumes nothing.
-use Prim.Native.Nat.{ℕ, ◌-◌, ◌/◌, ◌^◌, ◌≤◌}
-use mathlib.Core.Path.{◌≡◌, sym, ap, ◌∙◌}
-use mathlib.Core.Logic.{⊎_elim}
-use native.Mathlib.Nat.{div-one}
-use native.Mathlib.Omega.{arith}
-use borrow.Author.Rules.{rules}
+use Prim.Native.Nat.{◌-◌, ◌/◌, ◌^◌, ◌≤◌}
+use mathlib.Core.Path.{◌≡◌}
 use Rattle.field.specs.Xor.{◌⊕◌}
 use Rattle.field.specs.Maps
 use Rattle.field.specs.Maps.{affine, linear}
-use Rattle.field.proofs.Laws.Xor.{⊕-zero}
-use Rattle.field.proofs.Laws.Steps.{part, shift-next, column-set, column_clear}
+use Rattle.field.proofs.Laws.Steps.{part}
 use Rattle.field.proofs.apply.Given as goal
 
 abbrev pub invariant-loop-i : goal.invariant-loop-i

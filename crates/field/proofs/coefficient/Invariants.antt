@@ -1,15 +1,10 @@
 -- `field::coefficient` meets its contract. The loop's invariant: the sum has the terms of the i columns passed.
 -- Assumes nothing.
-use Prim.Native.Nat.{ℕ, ◌-◌, ◌≤◌}
-use mathlib.Core.Path.{◌≡◌, refl, sym, ap, ap₂, ◌∙◌}
-use native.Mathlib.Omega.{arith}
-use borrow.Author.Rules.{rules}
-use lib.ListN.{get_or}
-use Rattle.field.specs.Xor.{◌⊕◌}
-use Rattle.field.specs.Field.{times}
+use Prim.Native.Nat.{◌-◌, ◌≤◌}
+use mathlib.Core.Path.{◌≡◌}
 use Rattle.field.specs.Maps
 use Rattle.field.specs.Maps.{coefficient}
-use Rattle.field.proofs.Laws.Steps.{term, sum-next}
+use Rattle.field.proofs.Laws.Steps.{term}
 use Rattle.field.proofs.coefficient.Given as goal
 
 abbrev pub invariant-loop-i : goal.invariant-loop-i

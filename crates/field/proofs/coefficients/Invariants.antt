@@ -1,14 +1,10 @@
 -- `field::coefficients` meets its contract. The loop's invariant: the places below j hold their coefficients. Assumes
 -- nothing.
 use Prim.Native.Nat.{ℕ, ◌-◌, ◌≤◌, ◌<◌}
-use mathlib.Core.Path.{◌≡◌, refl, ◌∙◌}
-use native.Mathlib.Nat.{not-suc-le-zero}
-use native.Mathlib.Omega.{arith}
-use borrow.Author.Rules.{rules}
-use lib.ListN.{length, get_or, length-set}
+use mathlib.Core.Path.{◌≡◌}
+use lib.ListN.{length, get_or}
 use Rattle.field.specs.Field.{times}
-use Rattle.field.specs.Maps.{coefficient, coefficients, coefficients_of, dual_of}
-use Rattle.field.proofs.Laws.Sums.{fill_next, fill_done}
+use Rattle.field.specs.Maps.{coefficient, dual_of}
 use Rattle.field.proofs.coefficients.Given as goal
 
 abbrev pub invariant-loop-j : goal.invariant-loop-j

@@ -1,5 +1,4 @@
 -- `field::doubled` meets its contract, by cases on bit 7. Assumes nothing.
-use borrow.Author.Rules.{rules}
 use native.Mathlib.Omega.{arith}
 use Rattle.field.proofs.Laws.Steps.{double-low, double-high}
 use Rattle.field.proofs.doubled.Goals as goal

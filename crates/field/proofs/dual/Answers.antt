@@ -1,5 +1,4 @@
 -- `field::dual` meets its contract: its two tables are the definition's. Assumes nothing.
-use borrow.Author.Rules.{rules}
 use borrow.Author.Tests.{eq-eqb, ne_eqb}
 use Rattle.field.specs.Maps.{dual_of}
 use Rattle.field.proofs.dual.Goals as goal

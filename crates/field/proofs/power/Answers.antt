@@ -1,8 +1,6 @@
 use Prim.Native.Nat.{ℕ, ◌/◌, ◌<◌}
 use mathlib.Core.Path.{◌≡◌, sym, ap, ap₂, ◌∙◌, subst}
-use mathlib.Core.Logic.{⊎_elim}
 use native.Mathlib.Omega.{arith}
-use borrow.Author.Rules.{rules}
 use lib.Dec.{lit<}
 use Rattle.field.specs.Field.{times, power}
 use Rattle.field.proofs.Laws.Ring.{ring}
@@ -26,15 +24,18 @@ loop-n-preserved c =
     let l = c.loop-n in
     let m = c.args.m in
     let hm : m < 256 = omega arith in
-    elim c.if-n-eq1.branch [ then-n-eq1 w ↦ (
-      subst (λ (x : ℕ). x < 256) (sym (w.result-is ∙ w.times-result.ensures)) (times_lt m l.result l.x hm),
-      ap₂ (λ (r x : ℕ). times m r (power (times m) x (l.n / 2))) (w.result-is ∙ w.times-result.ensures) c.times-x.ensures
-          ∙ power-odd m hm l.result l.x l.n w.if-n-eq1.true ∙ l.invariant.1,
-    ) | else-n-eq1 w ↦ (
-      subst (λ (x : ℕ). x < 256) (sym w.result-is) l.invariant.0,
-      ap₂ (λ (r x : ℕ). times m r (power (times m) x (l.n / 2))) w.result-is c.times-x.ensures
-          ∙ power_even m hm l.result l.x l.n w.if-n-eq1.false ∙ l.invariant.1,
-    ) ]
+    elim c.if-n-eq1.branch [
+      | then-n-eq1 w ↦ (
+        subst (λ (x : ℕ). x < 256) (sym (w.result-is ∙ w.times-result.ensures)) (times_lt m l.result l.x hm),
+        ap₂ (λ (r x : ℕ). times m r (power (times m) x (l.n / 2))) (w.result-is ∙ w.times-result.ensures) c.times-x.ensures
+            ∙ power-odd m hm l.result l.x l.n w.if-n-eq1.true ∙ l.invariant.1,
+      )
+      | else-n-eq1 w ↦ (
+        subst (λ (x : ℕ). x < 256) (sym w.result-is) l.invariant.0,
+        ap₂ (λ (r x : ℕ). times m r (power (times m) x (l.n / 2))) w.result-is c.times-x.ensures
+            ∙ power_even m hm l.result l.x l.n w.if-n-eq1.false ∙ l.invariant.1,
+      )
+    ]
 
 pub returns : goal.returns
 returns c =

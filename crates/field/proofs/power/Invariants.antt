@@ -1,16 +1,8 @@
 -- `field::power` meets its contract. The loop's invariant: the result so far, times x to the power n, is the answer.
 -- Assumes nothing.
-use Prim.Native.Nat.{ℕ, ◌/◌, ◌<◌}
-use mathlib.Core.Path.{◌≡◌, sym, ap, ap₂, ◌∙◌, subst}
-use mathlib.Core.Logic.{⊎_elim}
-use native.Mathlib.Omega.{arith}
-use borrow.Author.Rules.{rules}
-use lib.Dec.{lit<}
+use Prim.Native.Nat.{◌<◌}
+use mathlib.Core.Path.{◌≡◌}
 use Rattle.field.specs.Field.{times, power}
-use Rattle.field.proofs.Laws.Ring.{ring}
-use Rattle.field.proofs.Laws.Algebra.{pow_byte, mul-one}
-use Rattle.field.proofs.Laws.Product.{times_lt}
-use Rattle.field.proofs.Laws.Steps.{power-odd, power_even}
 use Rattle.field.proofs.power.Given as goal
 
 abbrev pub invariant-loop-n : goal.invariant-loop-n

@@ -1,14 +1,9 @@
 -- `field::power_table` meets its contract. The loop's invariant: x is the power j, the places below hold theirs.
 -- Assumes nothing.
 use Prim.Native.Nat.{ℕ, ◌-◌, ◌≤◌, ◌<◌}
-use mathlib.Core.Path.{◌≡◌, refl, sym, ap, ◌∙◌}
-use native.Mathlib.Nat.{not-suc-le-zero}
-use native.Mathlib.Numerals.{add-one}
-use native.Mathlib.Omega.{arith}
-use lib.ListN.{length, get_or, length-set}
+use mathlib.Core.Path.{◌≡◌}
+use lib.ListN.{length, get_or}
 use Rattle.field.specs.Field.{times, power}
-use Rattle.field.proofs.Laws.Sums.{fill_next, fill_done}
-use borrow.Author.Rules.{rules}
 use Rattle.field.proofs.power_table.Given as goal
 
 abbrev pub invariant-loop-j : goal.invariant-loop-j

@@ -1,7 +1,6 @@
 use Prim.Native.Nat.{ℕ, ◌-◌}
 use mathlib.Core.Path.{◌≡◌, refl, sym, ap, ◌∙◌}
 use native.Mathlib.Omega.{arith}
-use borrow.Author.Rules.{rules}
 use Rattle.field.specs.Field.{times, squared}
 use Rattle.field.proofs.Laws.Steps.{squared-next}
 use Rattle.field.proofs.squares.Goals as goal

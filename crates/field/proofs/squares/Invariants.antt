@@ -1,10 +1,6 @@
 -- `field::squares` meets its contract. The loop's invariant: x squared `left` times is the answer. Assumes nothing.
-use Prim.Native.Nat.{ℕ, ◌-◌}
-use mathlib.Core.Path.{◌≡◌, refl, sym, ap, ◌∙◌}
-use native.Mathlib.Omega.{arith}
-use borrow.Author.Rules.{rules}
+use mathlib.Core.Path.{◌≡◌}
 use Rattle.field.specs.Field.{times, squared}
-use Rattle.field.proofs.Laws.Steps.{squared-next}
 use Rattle.field.proofs.squares.Given as goal
 
 abbrev pub invariant-loop-left : goal.invariant-loop-left

@@ -1,6 +1,5 @@
-use Prim.Native.Nat.{ℕ, ◌-◌, ◌/◌, ◌%◌, ◌≤◌, ◌<◌}
+use Prim.Native.Nat.{ℕ, ◌-◌, ◌/◌, ◌%◌, ◌<◌}
 use mathlib.Core.Path.{◌≡◌, sym, ap, ap₂, ◌∙◌}
-use mathlib.Core.Logic.{⊎_elim}
 use native.Mathlib.Nat.{mod-eq_of_lt}
 use native.Mathlib.Omega.{arith}
 use borrow.Author.Rules.{rules}
@@ -21,9 +20,12 @@ loop-n-preserved c =
     let m = c.args.m in
     let more : 0 < l.n = c.loop-n-test.true in (
       omega arith,
-      elim c.if-y-eq1.branch [ then-y-eq1 w ↦ ap₂ (λ (s x : ℕ). s ⊕ shifted m (l.n - 1) x (l.y / 2)) w.sum-is c.doubled-x.ensures
-          ∙ bit-set m l.n l.sum l.x l.y more w.if-y-eq1.true | else-y-eq1 w ↦ ap₂ (λ (s x : ℕ). s ⊕ shifted m (l.n - 1) x (l.y / 2)) w.sum-is c.doubled-x.ensures
-          ∙ bit_clear m l.n l.sum l.x l.y more w.if-y-eq1.false ]
+      elim c.if-y-eq1.branch [
+        | then-y-eq1 w ↦ ap₂ (λ (s x : ℕ). s ⊕ shifted m (l.n - 1) x (l.y / 2)) w.sum-is c.doubled-x.ensures
+            ∙ bit-set m l.n l.sum l.x l.y more w.if-y-eq1.true
+        | else-y-eq1 w ↦ ap₂ (λ (s x : ℕ). s ⊕ shifted m (l.n - 1) x (l.y / 2)) w.sum-is c.doubled-x.ensures
+            ∙ bit_clear m l.n l.sum l.x l.y more w.if-y-eq1.false
+      ]
           ∙ l.invariant.1,
     )
 

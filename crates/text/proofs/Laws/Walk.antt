@@ -10,7 +10,6 @@ use lib.Seq.{take_all}
 use Rattle.grammar.specs.declared.line.Line.{Line}
 use Rattle.reader.specs.declared.cursor.Cursor.{Cursor}
 use Rattle.reader.specs.declared.cursor.Ahead.{Ahead}
-use Rattle.reader.specs.declared.cursor.Ahead.TheVariants as Ahead
 use Rattle.lines.specs.declared.step.Step.{Step}
 use Rattle.tokens.specs.Ascii.{line_feed, all, allowed}
 use Rattle.tokens.specs.Split.{pieces}

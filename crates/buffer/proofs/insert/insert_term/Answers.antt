@@ -54,10 +54,9 @@ move_down-requires c = omega (arith, here (goal.at.move_down-requires c).Then-i-
 pub returns-then-c-eq0 : goal.returns-then-c-eq0
 unfolding X.◌⊕◌
 returns-then-c-eq0 c =
-    let o = c in
-    let a = o.args in
-    let r = o.requires in
-    let f = o.find_place-i in
+    let a = c.args in
+    let r = c.requires in
+    let f = c.find_place-i in
     let y1 = c.if-i-k in
     let q = c.compare_powers in
     let y2 = c.if-compare_powers-eq1 in
@@ -75,9 +74,8 @@ bounds-b-at-then-compare_powers-eq1 c = omega (arith, here (goal.at.bounds-b-at-
 pub returns-then-compare_powers-eq1 : goal.returns-then-compare_powers-eq1
 unfolding X.◌⊕◌
 returns-then-compare_powers-eq1 c =
-    let o = c in
-    let a = o.args in
-    let r = o.requires in
+    let a = c.args in
+    let r = c.requires in
     let f = c.find_place-i in
     let y1 = c.if-i-k in
     let q = c.compare_powers in
@@ -122,16 +120,14 @@ write_at-requires c =
 
 pub overflow_add-result : goal.overflow_add-result
 overflow_add-result c =
-    let o = c in
-    let a = o.args in
-    let r = o.requires in
+    let a = c.args in
+    let r = c.requires in
     omega (arith, row_count (suc a.k) (length a.t.now) r.some, r.room)
 
 pub returns : goal.returns
 returns c =
-    let o = c in
-    let a = o.args in
-    let r = o.requires in
+    let a = c.args in
+    let r = c.requires in
     let f = c.find_place-i in
     let y1 = c.if-i-k in
     let y4 = c.if-t-eq0 in

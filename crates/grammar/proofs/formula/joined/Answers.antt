@@ -13,10 +13,9 @@ overflow_add-result c =
 
 pub returns : goal.returns
 returns c =
-    let d = c in
     ap (λ (n : ℕ). record {
-      ok = d.args.b.ok;
-      end = d.args.b.end;
+      ok = c.args.b.ok;
+      end = c.args.b.end;
       depth = n + 1;
-      operations = d.args.a.operations + d.args.b.operations + 1;
+      operations = c.args.a.operations + c.args.b.operations + 1;
     }) c.greater-depth.ensures

@@ -14,21 +14,18 @@ use Rattle.grammar.proofs.formula.line_formula.Goals as goal
 pub returns-then-fits_word : goal.returns-then-fits_word
 unfolding formula_of
 returns-then-fits_word c =
-    let d = c in
-    let m = d in
-    let a = m.args in
+    let a = c.args in
     let ps = pieces_in a.s.now a.l in
     subst (λ (o : Option Formula). MeasureIs c.read_formula.result o)
-    (ap read_formula (c.part.ensures ∙ d.field-f.ensures.holds)
-    ∙ sym (counted-right Word.Let ps (read_formula (field 2 ps)) (sym m.fits_word.ensures ∙ d.if-fits_word.true)))
+    (ap read_formula (c.part.ensures ∙ c.field-f.ensures.holds)
+    ∙ sym (counted-right Word.Let ps (read_formula (field 2 ps)) (sym c.fits_word.ensures ∙ c.if-fits_word.true)))
     c.read_formula.ensures
 
 pub returns : goal.returns
 unfolding formula_of
 returns c =
-    let m = c in
-    let a = m.args in
+    let a = c.args in
     let ps = pieces_in a.s.now a.l in
     subst (λ (o : Option Formula). MeasureIs c.part_read.result o)
-    (counted_wrong Word.Let ps (read_formula (field 2 ps)) (sym m.fits_word.ensures ∙ c.if-fits_word.false))
+    (counted_wrong Word.Let ps (read_formula (field 2 ps)) (sym c.fits_word.ensures ∙ c.if-fits_word.false))
     (ap (λ (r : FormulaRead). r.ok) c.part_read.ensures)

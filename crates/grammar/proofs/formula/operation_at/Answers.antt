@@ -9,14 +9,11 @@ overflow_sub-mark c = omega arith
 
 pub returns-then-stands : goal.returns-then-stands
 returns-then-stands c =
-    let d = c in
-    let s = d in
     c.operation_of.ensures
-    ∙ operation_opened s.args.f.now s.args.at s.args.mark s.requires.0 s.requires.1
-    (sym d.stands.ensures ∙ d.if-stands.true) c.part.ensures
+    ∙ operation_opened c.args.f.now c.args.at c.args.mark c.requires.0 c.requires.1
+    (sym c.stands.ensures ∙ c.if-stands.true) c.part.ensures
 
 pub returns : goal.returns
 returns c =
-    let d = c in
-    operation_none d.args.f.now d.args.at d.args.mark d.requires.0 d.requires.1
+    operation_none c.args.f.now c.args.at c.args.mark c.requires.0 c.requires.1
     (sym c.stands.ensures ∙ c.if-stands.false)

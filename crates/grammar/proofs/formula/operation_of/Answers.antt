@@ -11,30 +11,25 @@ returns-then-same c = simp (sym c.same.ensures ∙ c.if-same.true)
 pub returns-then-same-2 : goal.returns-then-same-2
 unfolding operation_of ascii
 returns-then-same-2 c =
-    let d1 = c in
     simp (
-      sym d1.same.ensures ∙ d1.if-same.false,
+      sym c.same.ensures ∙ c.if-same.false,
       sym c.same-2.ensures ∙ c.if-same-2.true,
     )
 
 pub returns-then-same-3 : goal.returns-then-same-3
 unfolding operation_of ascii
 returns-then-same-3 c =
-    let d2 = c in
-    let d1 = d2 in
     simp (
-      sym d1.same.ensures ∙ d1.if-same.false,
-      sym d2.same-2.ensures ∙ d2.if-same-2.false,
+      sym c.same.ensures ∙ c.if-same.false,
+      sym c.same-2.ensures ∙ c.if-same-2.false,
       sym c.same-3.ensures ∙ c.if-same-3.true,
     )
 
 pub returns : goal.returns
 unfolding operation_of ascii
 returns c =
-    let d2 = c in
-    let d1 = d2 in
     simp (
-      sym d1.same.ensures ∙ d1.if-same.false,
-      sym d2.same-2.ensures ∙ d2.if-same-2.false,
+      sym c.same.ensures ∙ c.if-same.false,
+      sym c.same-2.ensures ∙ c.if-same-2.false,
       sym c.same-3.ensures ∙ c.if-same-3.false,
     )

@@ -17,8 +17,7 @@ returns-then-stands c = simp (c.if-r.true, sym c.stands.ensures ∙ c.if-stands.
 pub returns-then-r : goal.returns-then-r
 unfolding passed_over
 returns-then-r c =
-    let d = c in
-    simp (d.if-r.true, sym d.stands.ensures ∙ c.if-stands.false) c.part_read.ensures
+    simp (c.if-r.true, sym c.stands.ensures ∙ c.if-stands.false) c.part_read.ensures
 
 pub returns : goal.returns
 unfolding passed_over

@@ -4,11 +4,9 @@ use Rattle.grammar.proofs.formula.read_formula.Goals as goal
 
 pub returns-then-r-f : goal.returns-then-r-f
 returns-then-r-f c =
-    let d = c in
-    field-read d.args.f.now d.formula-r.result d.formula-r.ensures c.if-r-f.true
+    field-read c.args.f.now c.formula-r.result c.formula-r.ensures c.if-r-f.true
 
 pub returns : goal.returns
 returns c =
-    let d = c in
-    field-not d.args.f.now d.formula-r.result c.part_read.result d.formula-r.ensures
+    field-not c.args.f.now c.formula-r.result c.part_read.result c.formula-r.ensures
     c.if-r-f.false c.part_read.ensures

@@ -4,15 +4,12 @@ use Rattle.grammar.proofs.line.name_at.Goals as goal
 
 pub returns-in-Name : goal.returns-in-Name
 returns-in-Name c =
-    let d = c in
-    operand-name d.args.s.now _ d.term_at.ensures c.in-Name.is
+    operand-name c.args.s.now _ c.term_at.ensures c.in-Name.is
 
 pub returns-in-Byte : goal.returns-in-Byte
 returns-in-Byte c =
-    let d = c in
-    operand-name d.args.s.now _ d.term_at.ensures c.in-Byte.is
+    operand-name c.args.s.now _ c.term_at.ensures c.in-Byte.is
 
 pub returns-in-Bad : goal.returns-in-Bad
 returns-in-Bad c =
-    let d = c in
-    operand-name d.args.s.now _ d.term_at.ensures c.in-Bad.is
+    operand-name c.args.s.now _ c.term_at.ensures c.in-Bad.is

@@ -6,19 +6,16 @@ use Rattle.grammar.proofs.line.plain_field.Goals as goal
 
 pub returns-then-n-eq-NO_PART : goal.returns-then-n-eq-NO_PART
 returns-then-n-eq-NO_PART c =
-    let d = c in
-    plain-yes _ _ _ (ap (name_at d.args.s.now) (sym c.in-Name.is)
-    ∙ d.name_field.ensures) c.if-n-eq-NO_PART.true
+    plain-yes _ _ _ (ap (name_at c.args.s.now) (sym c.in-Name.is)
+    ∙ c.name_field.ensures) c.if-n-eq-NO_PART.true
 
 pub returns-else-n-eq-NO_PART : goal.returns-else-n-eq-NO_PART
 returns-else-n-eq-NO_PART c =
-    let d = c in
-    plain_no d.args.s.now _ c.in-Name.n
-    (ap (name_at d.args.s.now) (sym c.in-Name.is)
-    ∙ d.name_field.ensures) c.if-n-eq-NO_PART.false
+    plain_no c.args.s.now _ c.in-Name.n
+    (ap (name_at c.args.s.now) (sym c.in-Name.is)
+    ∙ c.name_field.ensures) c.if-n-eq-NO_PART.false
 
 pub returns-in-Bad : goal.returns-in-Bad
 returns-in-Bad c =
-    let d = c in
-    plain-none d.args.s.now _
-    (ap (name_at d.args.s.now) (sym c.in-Bad.is) ∙ d.name_field.ensures)
+    plain-none c.args.s.now _
+    (ap (name_at c.args.s.now) (sym c.in-Bad.is) ∙ c.name_field.ensures)

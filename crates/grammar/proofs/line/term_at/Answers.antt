@@ -17,18 +17,15 @@ answered d = d.term.ensures ∙ ap (λ (u : List ℕ). term_read (read_term u)) 
 
 pub returns-in-Name : goal.returns-in-Name
 returns-in-Name c =
-    let d = c in
-    let a = d.args in
+    let a = c.args in
     term_here_lem a.s.now a.at a.len (sym c.in-Name.is ∙ answered (goal.at.returns-in-Name c).After-term)
 
 pub returns-in-Byte : goal.returns-in-Byte
 returns-in-Byte c =
-    let d = c in
-    let a = d.args in
+    let a = c.args in
     term_here_lem a.s.now a.at a.len (sym c.in-Byte.is ∙ answered (goal.at.returns-in-Byte c).After-term)
 
 pub returns-in-Bad : goal.returns-in-Bad
 returns-in-Bad c =
-    let d = c in
-    let a = d.args in
+    let a = c.args in
     term_here_lem a.s.now a.at a.len (sym c.in-Bad.is ∙ answered (goal.at.returns-in-Bad c).After-term)

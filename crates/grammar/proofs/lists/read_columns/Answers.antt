@@ -39,40 +39,35 @@ loop-j-init c =
 
 pub returns-in-Bad : goal.returns-in-Bad
 returns-in-Bad c =
-    let d = c in
-    let at = c in
-    let ps = pieces_in at.args.s.now
-    at.args.l in
-    each_fail read_hex ps (3 + at.loop-j.j) (take at.loop-j.j at.loop-j.bytes) at.loop-j.invariant.3 (omega arith)
-    (sym (number_back (read_hex (field (3 + at.loop-j.j) ps)) d.hex_field.ensures)
+    let ps = pieces_in c.args.s.now
+    c.args.l in
+    each_fail read_hex ps (3 + c.loop-j.j) (take c.loop-j.j c.loop-j.bytes) c.loop-j.invariant.3 (omega arith)
+    (sym (number_back (read_hex (field (3 + c.loop-j.j) ps)) c.hex_field.ensures)
     ∙ ap number_at c.in-Bad.is)
 
 pub loop-j-preserved : goal.loop-j-preserved
 loop-j-preserved c =
-    let d = c in
-    let at = c in
-    let ps = pieces_in at.args.s.now
-    at.args.l in
-    let j = at.loop-j.j in
+    let ps = pieces_in c.args.s.now
+    c.args.l in
+    let j = c.loop-j.j in
     let v = c.in-Value.v in
-    let inside : j < length at.loop-j.bytes = omega arith in
-    let longer : take (j + 1) (set at.loop-j.bytes j v) ≡ take j at.loop-j.bytes ++ v ∷ [] =
-    rw add-one (take-suc-set at.loop-j.bytes j v inside) in
+    let inside : j < length c.loop-j.bytes = omega arith in
+    let longer : take (j + 1) (set c.loop-j.bytes j v) ≡ take j c.loop-j.bytes ++ v ∷ [] =
+    rw add-one (take-suc-set c.loop-j.bytes j v inside) in
     let place : 3 + j + 1 ≡ 3 + (j + 1) = omega arith in (
       omega arith,
-      length-set at.loop-j.bytes j v ∙ at.loop-j.invariant.1,
-      at.loop-j.invariant.2,
-      each-pass read_hex ps (3 + j) (take j at.loop-j.bytes) at.loop-j.invariant.3 v (omega arith)
-          (sym (number_back (read_hex (field (3 + j) ps)) d.hex_field.ensures)
+      length-set c.loop-j.bytes j v ∙ c.loop-j.invariant.1,
+      c.loop-j.invariant.2,
+      each-pass read_hex ps (3 + j) (take j c.loop-j.bytes) c.loop-j.invariant.3 v (omega arith)
+          (sym (number_back (read_hex (field (3 + j) ps)) c.hex_field.ensures)
           ∙ ap number_at c.in-Value.is)
-          ∙ ap (λ (k : ℕ). onto (take j at.loop-j.bytes ++ v ∷ []) (each read_hex (drop k ps))) place
+          ∙ ap (λ (k : ℕ). onto (take j c.loop-j.bytes ++ v ∷ []) (each read_hex (drop k ps))) place
           ∙ ap (λ (acc : List ℕ). onto acc (each read_hex (drop (3 + (j + 1)) ps))) (sym longer),
     )
 
 pub returns : goal.returns
 returns c =
-    let at = c in
-    let ps = pieces_in at.args.s.now
-    at.args.l in
-    ap some (sym (take_all at.loop-j.j at.loop-j.bytes (omega arith)))
-    ∙ each-done read_hex ps (3 + at.loop-j.j) (take at.loop-j.j at.loop-j.bytes) at.loop-j.invariant.3 (omega arith)
+    let ps = pieces_in c.args.s.now
+    c.args.l in
+    ap some (sym (take_all c.loop-j.j c.loop-j.bytes (omega arith)))
+    ∙ each-done read_hex ps (3 + c.loop-j.j) (take c.loop-j.j c.loop-j.bytes) c.loop-j.invariant.3 (omega arith)

@@ -29,26 +29,24 @@ told d = d.may_have.ensures ∙ ap (may_have Word.Output) d.piece_count-n.ensure
 pub returns-then-not-may_have : goal.returns-then-not-may_have
 unfolding names_of
 returns-then-not-may_have c =
-    let d = c in
-    let a = d.args in
+    let a = c.args in
     let ps = pieces_in a.s.now a.l in
-    none_read a.s.now a.l d.no_outputs-none.result d.no_outputs-none.ensures
+    none_read a.s.now a.l c.no_outputs-none.result c.no_outputs-none.ensures
     (counted_wrong Word.Output ps (each read_name (drop 1 ps))
     (sym (told (goal.at.returns-then-not-may_have c).After-may_have) ∙ c.if-not-may_have.true))
 
 pub loop-j-init : goal.loop-j-init
 unfolding names_of
 loop-j-init c =
-    let d = c in
-    let a = d.args in
+    let a = c.args in
     let ps = pieces_in a.s.now a.l in
-    let size = d.piece_count-n.ensures in
+    let size = c.piece_count-n.ensures in
     let o = each read_name (drop 1 ps) in
     let fits : may_have Word.Output (length ps) ≡ true =
     sym (told (goal.at.loop-j-init c).After-may_have) ∙ c.if-not-may_have.false in
     let ends = and-true (leb 2 (length ps)) (leb (length ps) 9) fits in (
       omega (arith, size, leb-true 2 (length ps) ends.0),
-      d.no_outputs-none.ensures.size,
+      c.no_outputs-none.ensures.size,
       omega (arith, size, leb-true (length ps) 9 ends.1),
       sym size,
       counted-right Word.Output ps o fits ∙ onto-none o,
@@ -56,35 +54,30 @@ loop-j-init c =
 
 pub returns-in-Bad : goal.returns-in-Bad
 returns-in-Bad c =
-    let d = c in
-    let at = c in
-    let made = at in
-    let a = made.args in
+    let a = c.args in
     let t = a.s.now in
-    let j = at.loop-j.j in
-    none_read t a.l made.no_outputs-none.result made.no_outputs-none.ensures
-    (each_fail read_name (pieces_in t a.l) (1 + j) (map (name_in t) (take j at.loop-j.items)) at.loop-j.invariant.4
-    (omega arith) (sym d.name_field.ensures ∙ ap (name_at t) c.in-Bad.is))
+    let j = c.loop-j.j in
+    none_read t a.l c.no_outputs-none.result c.no_outputs-none.ensures
+    (each_fail read_name (pieces_in t a.l) (1 + j) (map (name_in t) (take j c.loop-j.items)) c.loop-j.invariant.4
+    (omega arith) (sym c.name_field.ensures ∙ ap (name_at t) c.in-Bad.is))
 
 pub loop-j-preserved : goal.loop-j-preserved
 loop-j-preserved c =
-    let d = c in
-    let at = c in
-    let a = at.args in
+    let a = c.args in
     let t = a.s.now in
     let ps = pieces_in t a.l in
-    let j = at.loop-j.j in
+    let j = c.loop-j.j in
     let x = c.in-Name.x in
-    let items = at.loop-j.items in
+    let items = c.loop-j.items in
     let inside : j < length items = omega arith in
     let longer : take (j + 1) (set items j x) ≡ take j items ++ x ∷ [] = rw add-one (take-suc-set items j x inside) in
     let place : 1 + j + 1 ≡ 1 + (j + 1) = omega arith in (
       omega arith,
-      length-set items j x ∙ at.loop-j.invariant.1,
-      at.loop-j.invariant.2,
-      at.loop-j.invariant.3,
-      each-pass read_name ps (1 + j) (map (name_in t) (take j items)) at.loop-j.invariant.4 (name_in t x) (omega arith)
-          (sym d.name_field.ensures ∙ ap (name_at t) c.in-Name.is)
+      length-set items j x ∙ c.loop-j.invariant.1,
+      c.loop-j.invariant.2,
+      c.loop-j.invariant.3,
+      each-pass read_name ps (1 + j) (map (name_in t) (take j items)) c.loop-j.invariant.4 (name_in t x) (omega arith)
+          (sym c.name_field.ensures ∙ ap (name_at t) c.in-Name.is)
           ∙ ap (λ (k : ℕ). onto (map (name_in t) (take j items) ++ name_in t x ∷ []) (each read_name (drop k ps))) place
           ∙ ap (λ (acc : List Name). onto acc (each read_name (drop (1 + (j + 1)) ps)))
           (sym (ap (map (name_in t)) longer ∙ map-append (name_in t) (take j items) (x ∷ []))),
@@ -93,13 +86,12 @@ loop-j-preserved c =
 pub returns : goal.returns
 unfolding names_read
 returns c =
-    let at = c in
-    let a = at.args in
+    let a = c.args in
     let t = a.s.now in
-    let j = at.loop-j.j in
+    let j = c.loop-j.j in
     record {
-      listed = record { few = omega (arith, at.loop-j.invariant.0, at.loop-j.invariant.2); size = at.loop-j.invariant.1 };
+      listed = record { few = omega (arith, c.loop-j.invariant.0, c.loop-j.invariant.2); size = c.loop-j.invariant.1 };
       names =
-          each-done read_name (pieces_in t a.l) (1 + j) (map (name_in t) (take j at.loop-j.items)) at.loop-j.invariant.4
+          each-done read_name (pieces_in t a.l) (1 + j) (map (name_in t) (take j c.loop-j.items)) c.loop-j.invariant.4
           (omega arith);
     }

@@ -41,7 +41,6 @@ module _ (d : Then-fits_word) {v : Word} (told : d.args.w ≡ v) where
 pub returns-in-Shares : goal.returns-in-Shares
 unfolding record_in read_fields
 returns-in-Shares c =
-    let d = c in
     made (goal.at.returns-in-Shares c).Then-fits_word c.in-Shares.is
     (ap (λ (o : Option ℕ). o >>= λ k. some (shares k))
     (number_back (read_count (field 1 (ps (goal.at.returns-in-Shares c).Then-fits_word))) c.count_field.ensures))
@@ -49,7 +48,6 @@ returns-in-Shares c =
 pub returns-in-Map : goal.returns-in-Map
 unfolding record_in read_fields columns_of
 returns-in-Map c =
-    let d = c in
     let told = c.in-Map.is in
     made (goal.at.returns-in-Map c).Then-fits_word told
     (simp (
@@ -71,35 +69,30 @@ returns-in-Origin c = made (goal.at.returns-in-Origin c).Then-fits_word c.in-Ori
 pub returns-in-Set : goal.returns-in-Set
 unfolding read_fields
 returns-in-Set c =
-    let d = c in
-    stated (goal.at.returns-in-Set c).Then-fits_word d.in-Set.is c.assign.ensures
-    (ap (λ (o : Option Term). o >>= λ a. some (set a)) d.term_field.ensures) refl
+    stated (goal.at.returns-in-Set c).Then-fits_word c.in-Set.is c.assign.ensures
+    (ap (λ (o : Option Term). o >>= λ a. some (set a)) c.term_field.ensures) refl
 
 pub returns-in-Xor : goal.returns-in-Xor
 unfolding read_fields
 returns-in-Xor c =
-    let d = c in
-    stated (goal.at.returns-in-Xor c).Then-fits_word d.in-Xor.is c.assign-in-Xor.ensures
-    d.two_form.ensures refl
+    stated (goal.at.returns-in-Xor c).Then-fits_word c.in-Xor.is c.assign-in-Xor.ensures
+    c.two_form.ensures refl
 
 pub returns-in-Mul : goal.returns-in-Mul
 unfolding read_fields
 returns-in-Mul c =
-    let d = c in
-    stated (goal.at.returns-in-Mul c).Then-fits_word d.in-Mul.is c.assign-in-Mul.ensures
-    d.two_form-in-Mul.ensures refl
+    stated (goal.at.returns-in-Mul c).Then-fits_word c.in-Mul.is c.assign-in-Mul.ensures
+    c.two_form-in-Mul.ensures refl
 
 pub returns-in-App : goal.returns-in-App
 unfolding read_fields
 returns-in-App c =
-    let d = c in
-    stated (goal.at.returns-in-App c).Then-fits_word d.in-App.is c.assign-in-App.ensures
-    d.app_form.ensures refl
+    stated (goal.at.returns-in-App c).Then-fits_word c.in-App.is c.assign-in-App.ensures
+    c.app_form.ensures refl
 
 pub returns-in-Let : goal.returns-in-Let
 unfolding record_in read_fields formula_of
 returns-in-Let c =
-    let d = c in
     let told = c.in-Let.is in
     made (goal.at.returns-in-Let c).Then-fits_word told (simp (known (goal.at.returns-in-Let c).Then-fits_word told, ← c.name_field.ensures))
 

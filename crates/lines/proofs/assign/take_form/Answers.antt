@@ -11,51 +11,40 @@ use Rattle.lines.proofs.assign.take_form.Goals as goal
 pub returns-then-e-ne0 : goal.returns-then-e-ne0
 returns-then-e-ne0 c =
     λ codes.
-    let b2 = c in
-    let b3 = c in
-    let b4 = c in
-    let b5 = c in
-    let d = c in
-    let s = d.args.s.now in
-    let t = d.args.t.now in
+    let s = c.args.s.now in
+    let t = c.args.t.now in
     let set = c.block_names-set in
     let form = c.find_form-form in
-    form-fault s t d.args.here d.requires.sound d.args.x d.args.f form.result
+    form-fault s t c.args.here c.requires.sound c.args.x c.args.f form.result
     (names_in s t set.result) (ap (names_in s t) set.ensures.1) form.ensures.told
-    b5.if-form.true b2.first_fault-e.ensures b4.is_given-given.ensures b3.is_crowded-many.ensures
+    c.if-form.true c.first_fault-e.ensures c.is_given-given.ensures c.is_crowded-many.ensures
     c.if-e-ne0.true c.make.ensures
 
 pub returns-then-form : goal.returns-then-form
 returns-then-form c =
     λ codes.
-    let b3 = c in
-    let b4 = c in
-    let b5 = c in
-    let b6 = c in
-    let d = c in
-    let s = d.args.s.now in
-    let t = d.args.t.now in
+    let s = c.args.s.now in
+    let t = c.args.t.now in
     let set = c.block_names-set in
     let form = c.find_form-form in
-    let free = no_faults _ _ _ _ _ b3.first_fault-e.ensures c.if-e-ne0.false in
-    let fit = room d.args.here.known _ (sym b4.is_crowded-many.ensures ∙ free.3) in
-    form-grown s t d.args.here d.requires.sound d.args.x d.args.f form.result
+    let free = no_faults _ _ _ _ _ c.first_fault-e.ensures c.if-e-ne0.false in
+    let fit = room c.args.here.known _ (sym c.is_crowded-many.ensures ∙ free.3) in
+    form-grown s t c.args.here c.requires.sound c.args.x c.args.f form.result
     (names_in s t set.result) (ap (names_in s t) set.ensures.1) form.ensures.told
-    b6.if-form.true b3.first_fault-e.ensures b5.is_given-given.ensures b4.is_crowded-many.ensures
-    c.if-e-ne0.false fit (d.requires.low free.0)
-    (c.make-then-form.ensures ∙ ap (λ (j : Known). step_of 0 j (Stated d.args.x (record {
+    c.if-form.true c.first_fault-e.ensures c.is_given-given.ensures c.is_crowded-many.ensures
+    c.if-e-ne0.false fit (c.requires.low free.0)
+    (c.make-then-form.ensures ∙ ap (λ (j : Known). step_of 0 j (Stated c.args.x (record {
       op = form.result.op;
-      line = d.args.here.number;
+      line = c.args.here.number;
     }))) c.with_statements-next.ensures)
 
 pub returns : goal.returns
 returns c =
     λ codes.
-    let d = c in
-    let s = d.args.s.now in
-    let t = d.args.t.now in
+    let s = c.args.s.now in
+    let t = c.args.t.now in
     let set = c.block_names-set in
     let form = c.find_form-form in
-    form-bad s t d.args.here d.requires.sound d.args.x d.args.f form.result
+    form-bad s t c.args.here c.requires.sound c.args.x c.args.f form.result
     (names_in s t set.result) (ap (names_in s t) set.ensures.1) form.ensures.told c.if-form.false
     c.make-2.ensures

@@ -10,14 +10,12 @@ pub returns-in-Name : goal.returns-in-Name
 unfolding record_in
 returns-in-Name c =
     λ codes.
-    let d = c in
-    took_as d.args.s.now d.args.t.now d.args.here
-    (ap (λ (y : NameRead). rec.Assign y d.args.f) c.in-Name.is) (c.take_form.ensures codes)
+    took_as c.args.s.now c.args.t.now c.args.here
+    (ap (λ (y : NameRead). rec.Assign y c.args.f) c.in-Name.is) (c.take_form.ensures codes)
 
 pub returns-in-Bad : goal.returns-in-Bad
 unfolding record_in
 returns-in-Bad c =
     λ codes.
-    let d = c in
-    took_unread d.args.s.now d.args.t.now d.args.here d.requires.sound (λ y. rec.Assign y d.args.f)
+    took_unread c.args.s.now c.args.t.now c.args.here c.requires.sound (λ y. rec.Assign y c.args.f)
     c.in-Bad.is refl c.make.ensures

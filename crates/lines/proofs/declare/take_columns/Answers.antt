@@ -22,20 +22,19 @@ pub returns-then-e-ne0 : goal.returns-then-e-ne0
 unfolding repeats reads_unknown exceeds miscounts state_in nests
 returns-then-e-ne0 c =
     λ codes.
-    let d = c in
-    let k = d.args.here.known in
-    let s = d.args.s.now in
-    let t = d.args.t.now in
-    let x = name_in s d.args.x in
+    let k = c.args.here.known in
+    let s = c.args.s.now in
+    let t = c.args.t.now in
+    let x = name_in s c.args.x in
     let R = c.read_columns-read in
-    let here : some R.result.bytes ≡ columns_of (pieces_in s d.args.here.line) =
+    let here : some R.result.bytes ≡ columns_of (pieces_in s c.args.here.line) =
     sym (simp c.if-read.true) ∙ R.ensures in
-    took_fault s t d.args.here d.requires.sound (map x d.args.constant R.result.bytes)
-    (ap (map_in x d.args.constant) here) c.first_fault-e.ensures c.if-e-ne0.true
+    took_fault s t c.args.here c.requires.sound (map x c.args.constant R.result.bytes)
+    (ap (map_in x c.args.constant) here) c.first_fault-e.ensures c.if-e-ne0.true
     (λ y z. record {
       repeats = c.is_given-given.ensures;
       unknown = refl;
-      exceeds = ap (λ (i : ℕ). ltb most_maps (i + 1)) (sym (maps-length s (kept t k y) d.requires.sound z));
+      exceeds = ap (λ (i : ℕ). ltb most_maps (i + 1)) (sym (maps-length s (kept t k y) c.requires.sound z));
       miscounts = refl;
       shallow = refl;
     }) c.make.ensures
@@ -44,21 +43,18 @@ pub returns-then-read : goal.returns-then-read
 unfolding repeats reads_unknown exceeds miscounts added state_in nests
 returns-then-read c =
     λ codes.
-    let b2 = c in
-    let b3 = c in
-    let d = c in
-    let k = d.args.here.known in
-    let K = d.requires.sound in
-    let s = d.args.s.now in
-    let t = d.args.t.now in
-    let x = name_in s d.args.x in
+    let k = c.args.here.known in
+    let K = c.requires.sound in
+    let s = c.args.s.now in
+    let t = c.args.t.now in
+    let x = name_in s c.args.x in
     let R = c.read_columns-read in
-    let here : some R.result.bytes ≡ columns_of (pieces_in s d.args.here.line) =
+    let here : some R.result.bytes ≡ columns_of (pieces_in s c.args.here.line) =
     sym (simp c.if-read.true) ∙ R.ensures in
-    let free = no_faults _ _ _ _ _ b3.first_fault-e.ensures b2.if-e-ne0.false in
+    let free = no_faults _ _ _ _ _ c.first_fault-e.ensures c.if-e-ne0.false in
     let few : k.mapped < most_maps = omega (arith, ltb-false most_maps (k.mapped + 1) free.3) in
-    took_grown s t d.args.here K (map x d.args.constant R.result.bytes)
-    (ap (map_in x d.args.constant) here) _ (sym b2.if-e-ne0.false ∙ b3.first_fault-e.ensures) refl
+    took_grown s t c.args.here K (map x c.args.constant R.result.bytes)
+    (ap (map_in x c.args.constant) here) _ (sym c.if-e-ne0.false ∙ c.first_fault-e.ensures) refl
     (steady k K k.stage k.shares (k.mapped + 1) k.result k.outputs k.named K.shares
     (omega (arith, few)) K.named K.apart) few tt
     (λ y z. record {
@@ -68,14 +64,13 @@ returns-then-read c =
       miscounts = refl;
       shallow = refl;
     })
-    (λ y z. map-means s (kept t k y) K z d.args.x _ _ few refl)
+    (λ y z. map-means s (kept t k y) K z c.args.x _ _ few refl)
 
 pub returns : goal.returns
 returns c =
     λ codes.
-    let d = c in
-    let s = d.args.s.now in
+    let s = c.args.s.now in
     let R = c.read_columns-read in
-    let here : none ≡ columns_of (pieces_in s d.args.here.line) = sym (simp c.if-read.false) ∙ R.ensures in
-    took_bad s d.args.t.now d.args.here d.requires.sound
-    (ap (map_in (name_in s d.args.x) d.args.constant) here) c.make-2.ensures
+    let here : none ≡ columns_of (pieces_in s c.args.here.line) = sym (simp c.if-read.false) ∙ R.ensures in
+    took_bad s c.args.t.now c.args.here c.requires.sound
+    (ap (map_in (name_in s c.args.x) c.args.constant) here) c.make-2.ensures

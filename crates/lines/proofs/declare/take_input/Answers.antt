@@ -27,11 +27,9 @@ use Rattle.lines.proofs.declare.take_input.Goals as goal
 use Rattle.lines.proofs.declare.take_input.Goals.{Else-e-ne0}
 
 -- one input more is within the limits
-room : (c : Else-e-ne0) → let d = c in
-    InputFits d.args.here.known
+room : (c : Else-e-ne0) → InputFits c.args.here.known
 room c =
-    let d = c in
-    let k = d.args.here.known in
+    let k = c.args.here.known in
     let t = no_faults _ _ _ _ _ c.first_fault-e.ensures c.if-e-ne0.false in
     let u = or_false (ltb most_inputs (k.inputs + 1)) (ltb most_variables (k.variables + k.shares))
     (sym c.one_of-many.ensures ∙ t.3) in
@@ -42,10 +40,9 @@ pub returns-then-e-ne0 : goal.returns-then-e-ne0
 unfolding record_in repeats reads_unknown exceeds miscounts state_in nests
 returns-then-e-ne0 c =
     λ codes.
-    let d = c in
-    let s = d.args.s.now in
-    took_fault s d.args.t.now d.args.here d.requires.sound (input (name_in s c.in-Name.m))
-    (ap (λ (y : NameRead). record_at s d.args.here (rec.Input y)) (sym c.in-Name.is))
+    let s = c.args.s.now in
+    took_fault s c.args.t.now c.args.here c.requires.sound (input (name_in s c.in-Name.m))
+    (ap (λ (y : NameRead). record_at s c.args.here (rec.Input y)) (sym c.in-Name.is))
     c.first_fault-e.ensures c.if-e-ne0.true
     (λ y z. record {
       repeats = c.is_given-given.ensures;
@@ -57,28 +54,24 @@ returns-then-e-ne0 c =
 
 pub with_input-next-requires : goal.with_input-next-requires
 with_input-next-requires c =
-    let d = c in
-    (d.requires.sound, room (goal.at.with_input-next-requires c).Else-e-ne0)
+    (c.requires.sound, room (goal.at.with_input-next-requires c).Else-e-ne0)
 
 pub returns-else-e-ne0 : goal.returns-else-e-ne0
 unfolding record_in repeats reads_unknown exceeds miscounts added state_in step_of nests
 returns-else-e-ne0 c =
     λ codes.
-    let b2 = c in
-    let b3 = c in
-    let d = c in
-    let k = d.args.here.known in
-    let s = d.args.s.now in
-    let t = d.args.t.now in
+    let k = c.args.here.known in
+    let s = c.args.s.now in
+    let t = c.args.t.now in
     let m = c.in-Name.m in
     let fit = room (goal.at.returns-else-e-ne0 c).Else-e-ne0 in
     let e = c.make-in-Name.ensures ∙ ap (λ (j : Known). step_of 0 j (Input m)) c.with_input-next.ensures in
-    let o = record_at s d.args.here (rec.Input d.args.x) in
-    subst (λ (r : Step). Took s t codes d.args.here o r) (sym e)
-    (took_grown s t d.args.here d.requires.sound (input (name_in s m))
-    (ap (λ (y : NameRead). record_at s d.args.here (rec.Input y)) (sym c.in-Name.is))
-    (step_of 0 (input_added k) (Input m)) (sym b2.if-e-ne0.false ∙ b3.first_fault-e.ensures) refl
-    (input-sound k d.requires.sound fit) fit tt
+    let o = record_at s c.args.here (rec.Input c.args.x) in
+    subst (λ (r : Step). Took s t codes c.args.here o r) (sym e)
+    (took_grown s t c.args.here c.requires.sound (input (name_in s m))
+    (ap (λ (y : NameRead). record_at s c.args.here (rec.Input y)) (sym c.in-Name.is))
+    (step_of 0 (input_added k) (Input m)) (sym c.if-e-ne0.false ∙ c.first_fault-e.ensures) refl
+    (input-sound k c.requires.sound fit) fit tt
     (λ y z. record {
       repeats = c.is_given-given.ensures;
       unknown = refl;
@@ -86,12 +79,11 @@ returns-else-e-ne0 c =
       miscounts = refl;
       shallow = refl;
     })
-    (λ y z. input-means s (kept t k y) d.requires.sound z m fit))
+    (λ y z. input-means s (kept t k y) c.requires.sound z m fit))
 
 pub returns-in-Bad : goal.returns-in-Bad
 unfolding record_in
 returns-in-Bad c =
     λ codes.
-    let d = c in
-    took_unread d.args.s.now d.args.t.now d.args.here d.requires.sound rec.Input
+    took_unread c.args.s.now c.args.t.now c.args.here c.requires.sound rec.Input
     c.in-Bad.is refl c.make-in-Bad.ensures

@@ -10,27 +10,21 @@ pub returns-in-Value : goal.returns-in-Value
 unfolding record_in
 returns-in-Value c =
     λ codes.
-    let b2 = c in
-    let b5 = c in
-    let d = c in
-    took_as d.args.s.now d.args.t.now d.args.here
-    (λ i. rec.Map (b5.in-Name.is i) (b2.in-Value.is i)) (c.take_columns.ensures codes)
+    took_as c.args.s.now c.args.t.now c.args.here
+    (λ i. rec.Map (c.in-Name.is i) (c.in-Value.is i)) (c.take_columns.ensures codes)
 
 pub returns-in-Bad-constant : goal.returns-in-Bad-constant
 unfolding record_in
 returns-in-Bad-constant c =
     λ codes.
-    let b4 = c in
-    let d = c in
-    let s = d.args.s.now in
-    took_bad s d.args.t.now d.args.here d.requires.sound
-    (λ i. record_at s d.args.here (rec.Map (sym b4.in-Name.is i) (sym c.in-Bad-constant.is i)))
+    let s = c.args.s.now in
+    took_bad s c.args.t.now c.args.here c.requires.sound
+    (λ i. record_at s c.args.here (rec.Map (sym c.in-Name.is i) (sym c.in-Bad-constant.is i)))
     c.make.ensures
 
 pub returns-in-Bad : goal.returns-in-Bad
 unfolding record_in
 returns-in-Bad c =
     λ codes.
-    let d = c in
-    took_unread d.args.s.now d.args.t.now d.args.here d.requires.sound (λ y. rec.Map y d.args.constant)
+    took_unread c.args.s.now c.args.t.now c.args.here c.requires.sound (λ y. rec.Map y c.args.constant)
     c.in-Bad.is refl c.make-in-Bad.ensures

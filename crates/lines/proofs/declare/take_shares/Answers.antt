@@ -20,13 +20,12 @@ pub returns-in-Value : goal.returns-in-Value
 unfolding record_in repeats reads_unknown exceeds miscounts added with_shares state_in nests
 returns-in-Value c =
     λ s t codes.
-    let d = c in
-    let k = d.args.here.known in
-    let K = d.requires in
+    let k = c.args.here.known in
+    let K = c.requires in
     let v = c.in-Value.v in
     let few : v ≤ 255 = search rules in
-    took_set s t d.args.here K (shares v)
-    (ap (λ (x : Number). record_at s d.args.here (rec.Shares x)) (sym c.in-Value.is))
+    took_set s t c.args.here K (shares v)
+    (ap (λ (x : Number). record_at s c.args.here (rec.Shares x)) (sym c.in-Value.is))
     c.first_fault-e.ensures _ refl
     (steady k K k.stage v k.mapped k.result k.outputs k.named few K.mapped K.named K.apart)
     (λ x z. record { repeats = refl; unknown = refl; exceeds = refl; miscounts = refl; shallow = refl })
@@ -36,6 +35,5 @@ pub returns-in-Bad : goal.returns-in-Bad
 unfolding record_in
 returns-in-Bad c =
     λ s t codes.
-    let d = c in
-    took_unread s t d.args.here d.requires rec.Shares
+    took_unread s t c.args.here c.requires rec.Shares
     c.in-Bad.is refl c.make-in-Bad.ensures

@@ -9,17 +9,16 @@ use Rattle.lines.proofs.letting.take_let.Goals as goal
 pub returns-in-Name : goal.returns-in-Name
 unfolding record_in
 returns-in-Name c =
-    let d = c in
     let F = c.take_formula in (
-      took_as d.args.s.now d.args.t.now d.args.here
+      took_as c.args.s.now c.args.t.now c.args.here
           (ap (λ (y : NameRead). rec.Let y) c.in-Name.is) F.ensures.0,
       F.ensures.1,
     )
 
 pub returns-in-Bad : goal.returns-in-Bad
 unfolding record_in
-returns-in-Bad c = let d = c in (
-  took_unread d.args.s.now d.args.t.now d.args.here d.requires.sound rec.Let
+returns-in-Bad c = (
+  took_unread c.args.s.now c.args.t.now c.args.here c.requires.sound rec.Let
       c.in-Bad.is refl c.make.ensures,
   refl,
 )

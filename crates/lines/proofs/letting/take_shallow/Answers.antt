@@ -18,64 +18,59 @@ use Rattle.lines.proofs.letting.take_shallow.Goals as goal
 
 pub write_let-unknown-requires : goal.write_let-unknown-requires
 write_let-unknown-requires c =
-    let d = c in
-    let S = d.requires.0 in
-    (d.requires.2.sound, S.inside, shallow_fits d.args.s.now d.args.f S)
+    let S = c.requires.0 in
+    (c.requires.2.sound, S.inside, shallow_fits c.args.s.now c.args.f S)
 
 pub overflow_add-many-2 : goal.overflow_add-many-2
 overflow_add-many-2 c =
-    let d = c in
-    omega (arith, d.requires.2.sound.statements, shallow-count d.args.s.now d.args.f d.requires.0)
+    omega (arith, c.requires.2.sound.statements, shallow-count c.args.s.now c.args.f c.requires.0)
 
 pub returns-then-e-ne0 : goal.returns-then-e-ne0
 returns-then-e-ne0 c =
-    let d = c in
-    let k = d.args.here.known in
-    let s = d.args.s.now in
-    let t = d.args.t.now in
+    let k = c.args.here.known in
+    let s = c.args.s.now in
+    let t = c.args.t.now in
     let set = c.block_names-set in
     let W = c.write_let-unknown in (
-      let_fault s t d.args.here d.requires.2.sound d.args.x d.args.f d.requires.0 d.requires.1 W.result _ _
+      let_fault s t c.args.here c.requires.2.sound c.args.x c.args.f c.requires.0 c.requires.1 W.result _ _
           W.ensures c.first_fault-e.ensures
           (c.is_given-given.ensures
-          ∙ ap (λ (n : Names). given (name_in s d.args.x) (names_in s t n)) set.ensures.1) refl
+          ∙ ap (λ (n : Names). given (name_in s c.args.x) (names_in s t n)) set.ensures.1) refl
           c.if-e-ne0.true c.make.ensures,
-      written-size (names_in s t (block_names k)) (names_in s t (map_names k)) d.args.codes.now _ W.result
-          (read_formula (field_of s d.args.f)) (shallow_fits s d.args.f d.requires.0) W.ensures,
+      written-size (names_in s t (block_names k)) (names_in s t (map_names k)) c.args.codes.now _ W.result
+          (read_formula (field_of s c.args.f)) (shallow_fits s c.args.f c.requires.0) W.ensures,
     )
 
 pub with_statements-next-requires : goal.with_statements-next-requires
 with_statements-next-requires c =
-    let d = c in
-    let s = d.args.s.now in
-    let t = d.args.t.now in
+    let s = c.args.s.now in
+    let t = c.args.t.now in
     let set = c.block_names-set in
     let W = c.write_let-unknown in
-    let F = let_fits s t d.args.here d.requires.2.sound d.args.x d.args.f d.requires.0 d.requires.1
+    let F = let_fits s t c.args.here c.requires.2.sound c.args.x c.args.f c.requires.0 c.requires.1
     W.result _ _ W.ensures c.first_fault-e.ensures
     (c.is_given-given.ensures
-    ∙ ap (λ (n : Names). given (name_in s d.args.x) (names_in s t n)) set.ensures.1) refl c.if-e-ne0.false in
-    (d.requires.2.sound, omega arith, omega (arith, F.1))
+    ∙ ap (λ (n : Names). given (name_in s c.args.x) (names_in s t n)) set.ensures.1) refl c.if-e-ne0.false in
+    (c.requires.2.sound, omega arith, omega (arith, F.1))
 
 pub returns : goal.returns
 returns c =
-    let d = c in
-    let k = d.args.here.known in
-    let s = d.args.s.now in
-    let t = d.args.t.now in
+    let k = c.args.here.known in
+    let s = c.args.s.now in
+    let t = c.args.t.now in
     let set = c.block_names-set in
     let W = c.write_let-unknown in
     let z = c.if-e-ne0.false in
     let e = c.first_fault-e.ensures in
     let free = no_faults _ _ _ _ _ e z in (
-      let_grown s t d.args.here d.requires.2.sound d.args.x d.args.f d.requires.0 d.requires.1 W.result _ _
+      let_grown s t c.args.here c.requires.2.sound c.args.x c.args.f c.requires.0 c.requires.1 W.result _ _
           W.ensures e
           (c.is_given-given.ensures
-          ∙ ap (λ (n : Names). given (name_in s d.args.x) (names_in s t n)) set.ensures.1) refl
+          ∙ ap (λ (n : Names). given (name_in s c.args.x) (names_in s t n)) set.ensures.1) refl
           z
-          (d.requires.2.low free.0)
+          (c.requires.2.low free.0)
           (c.make-2.ensures
-          ∙ ap (λ (j : Known). step_of 0 j (Let d.args.x d.args.f)) c.with_statements-next.ensures),
-      written-size (names_in s t (block_names k)) (names_in s t (map_names k)) d.args.codes.now _ W.result
-          (read_formula (field_of s d.args.f)) (shallow_fits s d.args.f d.requires.0) W.ensures,
+          ∙ ap (λ (j : Known). step_of 0 j (Let c.args.x c.args.f)) c.with_statements-next.ensures),
+      written-size (names_in s t (block_names k)) (names_in s t (map_names k)) c.args.codes.now _ W.result
+          (read_formula (field_of s c.args.f)) (shallow_fits s c.args.f c.requires.0) W.ensures,
     )

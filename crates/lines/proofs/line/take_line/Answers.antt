@@ -15,19 +15,14 @@ use Rattle.lines.proofs.line.take_line.Goals as goal
 pub returns-then-all_allowed : goal.returns-then-all_allowed
 unfolding pieces_in
 returns-then-all_allowed c =
-    let b2 = c in
-    let b3 = c in
-    let b4 = c in
-    let b6 = c in
-    let d = c in
-    let s = d.args.s.now in
-    let l = take d.args.l.len (drop d.args.l.from s) in
+    let s = c.args.s.now in
+    let l = take c.args.l.len (drop c.args.l.from s) in
     let clean : all allowed l ≡ true = sym (c.all_allowed.ensures
-    ∙ ap (all allowed) b6.part.ensures) ∙ b4.if-all_allowed.true in
-    let told = c.word_of-w.ensures ∙ ap word_of (b2.part-then-all_allowed.ensures ∙ b3.field-f.ensures.holds) in (
+    ∙ ap (all allowed) c.part.ensures) ∙ c.if-all_allowed.true in
+    let told = c.word_of-w.ensures ∙ ap word_of (c.part-then-all_allowed.ensures ∙ c.field-f.ensures.holds) in (
       record {
         outcome = λ a z. c.take_record.ensures.0.outcome a z
-            ∙ line_record (state_in s (kept d.args.t.now d.args.k a)) d.args.n l clean
+            ∙ line_record (state_in s (kept c.args.t.now c.args.k a)) c.args.n l clean
             c.word_of-w.result told;
         sound = c.take_record.ensures.0.sound;
         fits = c.take_record.ensures.0.fits;
@@ -39,17 +34,16 @@ returns-then-all_allowed c =
 pub returns : goal.returns
 unfolding outcome_in step_of unless
 returns c =
-    let d = c in
-    let s = d.args.s.now in
-    let t = d.args.t.now in
-    let k = d.args.k in
-    let l = take d.args.l.len (drop d.args.l.from s) in
+    let s = c.args.s.now in
+    let t = c.args.t.now in
+    let k = c.args.k in
+    let l = take c.args.l.len (drop c.args.l.from s) in
     let foul : all allowed l ≡ false = sym (c.all_allowed.ensures
     ∙ ap (all allowed) c.part.ensures) ∙ c.if-all_allowed.false in (
-      subst (λ (r : Step). LineLeads s t d.args.codes.now k d.args.l d.args.n r) (sym c.make.ensures)
+      subst (λ (r : Step). LineLeads s t c.args.codes.now k c.args.l c.args.n r) (sym c.make.ensures)
           (record {
-            outcome = λ a z. line-bad (state_in s (kept t k a)) d.args.n l foul;
-            sound = d.requires.1;
+            outcome = λ a z. line-bad (state_in s (kept t k a)) c.args.n l foul;
+            sound = c.requires.1;
             fits = tt;
             lets = tt;
           }),

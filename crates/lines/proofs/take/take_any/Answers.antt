@@ -18,9 +18,9 @@ arm d e T = (took_as d.args.s.now d.args.t.now d.args.here e (T _), refl)
 
 pub returns-in-Bad : goal.returns-in-Bad
 unfolding record_in
-returns-in-Bad c = let d = c in (
-  took_bad d.args.s.now d.args.t.now d.args.here d.requires.sound
-      (ap (record_at d.args.s.now d.args.here) (sym c.in-Bad.is)) c.make.ensures,
+returns-in-Bad c = (
+  took_bad c.args.s.now c.args.t.now c.args.here c.requires.sound
+      (ap (record_at c.args.s.now c.args.here) (sym c.in-Bad.is)) c.make.ensures,
   refl,
 )
 

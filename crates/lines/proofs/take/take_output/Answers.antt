@@ -23,18 +23,17 @@ pub returns-then-read : goal.returns-then-read
 unfolding record_in repeats reads_unknown exceeds miscounts added state_in names_read with_outputs nests
 returns-then-read c =
     λ codes.
-    let d = c in
-    let k = d.args.here.known in
-    let K = d.requires.sound in
-    let s = d.args.s.now in
-    let t = d.args.t.now in
+    let k = c.args.here.known in
+    let K = c.requires.sound in
+    let s = c.args.s.now in
+    let t = c.args.t.now in
     let R = c.read_outputs-read in
     let ns : List Name = names_read s R.result in
-    let here : some ns ≡ names_of (pieces_in s d.args.here.line) =
+    let here : some ns ≡ names_of (pieces_in s c.args.here.line) =
     sym (simp c.if-read.true) ∙ R.ensures.names in
     let long = read_length s R.result R.ensures.listed in
     let found = c.find_outputs-found.ensures in
-    took_set s t d.args.here K (output ns)
+    took_set s t c.args.here K (output ns)
     (ap (λ (o : Option (List Name)). o >>= λ xs. some (output xs)) here)
     c.first_fault-e.ensures _ refl
     (steady k K k.stage k.shares k.mapped k.result _ R.result.count K.shares K.mapped
@@ -52,9 +51,8 @@ pub returns : goal.returns
 unfolding record_in
 returns c =
     λ codes.
-    let d = c in
-    let s = d.args.s.now in
-    let here : none ≡ names_of (pieces_in s d.args.here.line) = sym (simp c.if-read.false)
+    let s = c.args.s.now in
+    let here : none ≡ names_of (pieces_in s c.args.here.line) = sym (simp c.if-read.false)
     ∙ c.read_outputs-read.ensures.names in
-    took_bad s d.args.t.now d.args.here d.requires.sound
+    took_bad s c.args.t.now c.args.here c.requires.sound
     (ap (λ (o : Option (List Name)). o >>= λ xs. some (output xs)) here) c.make-2.ensures

@@ -21,15 +21,14 @@ pub returns-in-Name : goal.returns-in-Name
 unfolding record_in repeats reads_unknown exceeds miscounts added state_in name_found with_result nests
 returns-in-Name c =
     λ codes.
-    let d = c in
-    let k = d.args.here.known in
-    let K = d.requires.sound in
-    let s = d.args.s.now in
-    let t = d.args.t.now in
+    let k = c.args.here.known in
+    let K = c.requires.sound in
+    let s = c.args.s.now in
+    let t = c.args.t.now in
     let found = c.find_name-found.ensures in
     let place = c.find_name-found.result.place in
-    took_set s t d.args.here K (result (name_in s c.in-Name.m))
-    (ap (λ (y : NameRead). record_at s d.args.here (rec.Result y)) (sym c.in-Name.is))
+    took_set s t c.args.here K (result (name_in s c.in-Name.m))
+    (ap (λ (y : NameRead). record_at s c.args.here (rec.Result y)) (sym c.in-Name.is))
     c.first_fault-e.ensures _ refl
     (steady k K k.stage k.shares k.mapped place k.outputs k.named K.shares K.mapped K.named
     K.apart)
@@ -46,6 +45,5 @@ pub returns-in-Bad : goal.returns-in-Bad
 unfolding record_in
 returns-in-Bad c =
     λ codes.
-    let d = c in
-    took_unread d.args.s.now d.args.t.now d.args.here d.requires.sound rec.Result
+    took_unread c.args.s.now c.args.t.now c.args.here c.requires.sound rec.Result
     c.in-Bad.is refl c.make-in-Bad.ensures

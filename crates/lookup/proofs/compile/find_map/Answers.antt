@@ -5,10 +5,8 @@ use Rattle.lookup.proofs.compile.find_map.Goals as goal
 
 pub returns : goal.returns
 returns c =
-    let m = c in
-    let s = m in
     let n = c.name_at-n in
     let a = c.term_of in
-    c.made.ensures ∙ map-looked s.args.s.now s.args.t.now s.args.f.now s.args.w s.args.at
-    s.args.done m.find_mark-mark.result s.requires.0 s.requires.1 m.find_mark-mark.ensures n.result n.ensures
-    a.result (a.ensures s.args.s.now) c.find_term-x.ensures
+    c.made.ensures ∙ map-looked c.args.s.now c.args.t.now c.args.f.now c.args.w c.args.at
+    c.args.done c.find_mark-mark.result c.requires.0 c.requires.1 c.find_mark-mark.ensures n.result n.ensures
+    a.result (a.ensures c.args.s.now) c.find_term-x.ensures

@@ -5,8 +5,7 @@ use Rattle.lookup.proofs.compile.find_operand.Goals as goal
 
 pub returns : goal.returns
 returns c =
-    let s = c in
     let x = c.find_term-x in
-    c.made.ensures ∙ term-looked s.args.s.now s.args.t.now s.args.f.now s.args.w s.args.at
-    s.args.mark s.args.done s.requires.0 s.requires.1 s.requires.2 c.term_at-a.result
+    c.made.ensures ∙ term-looked c.args.s.now c.args.t.now c.args.f.now c.args.w c.args.at
+    c.args.mark c.args.done c.requires.0 c.requires.1 c.requires.2 c.term_at-a.result
     c.term_at-a.ensures x.ensures

@@ -25,16 +25,14 @@ returns-in-Set c =
 pub returns-in-Xor : goal.returns-in-Xor
 unfolding kind_code left_code right_code
 returns-in-Xor c =
-    let b = c in
-    stored (goal.at.returns-in-Xor c).Start b.in-Xor.is
-    c.put_codes-in-Xor.ensures b.operand_code-in-Xor.ensures c.operand_code-in-Xor-2.ensures
+    stored (goal.at.returns-in-Xor c).Start c.in-Xor.is
+    c.put_codes-in-Xor.ensures c.operand_code-in-Xor.ensures c.operand_code-in-Xor-2.ensures
 
 pub returns-in-Mul : goal.returns-in-Mul
 unfolding kind_code left_code right_code
 returns-in-Mul c =
-    let b = c in
-    stored (goal.at.returns-in-Mul c).Start b.in-Mul.is
-    c.put_codes-in-Mul.ensures b.operand_code-in-Mul.ensures c.operand_code-in-Mul-2.ensures
+    stored (goal.at.returns-in-Mul c).Start c.in-Mul.is
+    c.put_codes-in-Mul.ensures c.operand_code-in-Mul.ensures c.operand_code-in-Mul-2.ensures
 
 pub returns-in-App : goal.returns-in-App
 unfolding kind_code left_code right_code

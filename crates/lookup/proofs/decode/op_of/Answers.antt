@@ -8,34 +8,30 @@ use Rattle.lookup.proofs.decode.op_of.Goals as goal
 pub returns-then-kind-eq0 : goal.returns-then-kind-eq0
 unfolding op_of
 returns-then-kind-eq0 c =
-    let d = c in
-    simp (eq-eqb _ _ c.if-kind-eq0.true) (ap Op.Set d.operand_of-x.ensures)
+    simp (eq-eqb _ _ c.if-kind-eq0.true) (ap Op.Set c.operand_of-x.ensures)
 
 pub returns-then-kind-eq1 : goal.returns-then-kind-eq1
 unfolding op_of
 returns-then-kind-eq1 c =
-    let d = c in
     simp (ne_eqb _ _ c.if-kind-eq0.false, eq-eqb _ _ c.if-kind-eq1.true)
-    (λ i. Op.Xor (d.operand_of-x.ensures i) (d.operand_of-y.ensures i))
+    (λ i. Op.Xor (c.operand_of-x.ensures i) (c.operand_of-y.ensures i))
 
 pub returns-then-kind-eq2 : goal.returns-then-kind-eq2
 unfolding op_of
 returns-then-kind-eq2 c =
-    let d = c in
     simp (ne_eqb _ _ c.if-kind-eq0.false, ne_eqb _ _ c.if-kind-eq1.false, eq-eqb _ _ c.if-kind-eq2.true)
-    (λ i. Op.Mul (d.operand_of-x.ensures i) (d.operand_of-y.ensures i))
+    (λ i. Op.Mul (c.operand_of-x.ensures i) (c.operand_of-y.ensures i))
 
 pub returns-then-kind-eq3 : goal.returns-then-kind-eq3
 unfolding op_of
 returns-then-kind-eq3 c =
-    let d = c in
     simp (
       ne_eqb _ _ c.if-kind-eq0.false,
       ne_eqb _ _ c.if-kind-eq1.false,
       ne_eqb _ _ c.if-kind-eq2.false,
       eq-eqb _ _ c.if-kind-eq3.true,
     )
-    (ap (Op.App d.args.left) d.operand_of-y.ensures)
+    (ap (Op.App c.args.left) c.operand_of-y.ensures)
 
 pub returns : goal.returns
 unfolding op_of

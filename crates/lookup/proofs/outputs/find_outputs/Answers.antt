@@ -26,16 +26,15 @@ loop-i-init c = (omega arith, refl, refl, refl)
 pub loop-i-preserved : goal.loop-i-preserved
 unfolding names_read name_found
 loop-i-preserved c =
-    let d = c in
-    let s = d.args.s.now in
-    let o = d.args.o in
+    let s = c.args.s.now in
+    let o = c.args.o in
     let ns = names_read s o in
-    let long = read_length s o d.requires.0 in
+    let long = read_length s o c.requires.0 in
     let L = c.loop-i in
     let i = L.i in
-    let ms = names_in s d.args.t.now d.args.set in
+    let ms = names_in s c.args.t.now c.args.set in
     let f : Name → ℕ = λ x. place_of x ms in
-    let here = read_at s o d.requires.0 i (omega arith) in
+    let here = read_at s o c.requires.0 i (omega arith) in
     let found = c.find_name-x in
     let place = found.result.place in
     let absent = ap (λ (y : NameFound). y.unknown) found.ensures ∙ ap (missing ms) (sym here) in
@@ -54,14 +53,13 @@ loop-i-preserved c =
 pub returns : goal.returns
 unfolding names_read
 returns c =
-    let d = c in
-    let s = d.args.s.now in
-    let o = d.args.o in
+    let s = c.args.s.now in
+    let o = c.args.o in
     let ns = names_read s o in
-    let long = read_length s o d.requires.0 in
+    let long = read_length s o c.requires.0 in
     let L = c.loop-i in
     let i = L.i in
-    let ms = names_in s d.args.t.now d.args.set in
+    let ms = names_in s c.args.t.now c.args.set in
     let all : o.count ≡ i = omega arith in
     record {
       unknown = any-done (name_in s nowhere) ns i (missing ms) L.unknown L.invariant.2 (omega arith);

@@ -19,36 +19,32 @@ loop-i-init c = (omega arith, c.none-seen.ensures, refl)
 pub returns-then-is_given : goal.returns-then-is_given
 unfolding names_read names_in
 returns-then-is_given c =
-    let d = c in
-    let s = d.args.s.now in
-    let o = d.args.o in
+    let s = c.args.s.now in
+    let o = c.args.o in
     let ns = names_read s o in
-    let long = read_length s o d.requires in
+    let long = read_length s o c.requires in
     let L = c.loop-i in
     let i = L.i in
     let seen = listed s L.seen 0 i in
-    let told = ap (λ (x : Name). given x seen) (read_at s o d.requires i (omega arith))
+    let told = ap (λ (x : Name). given x seen) (read_at s o c.requires i (omega arith))
     ∙ sym c.is_given.ensures ∙ c.if-is_given.true in
     repeated_hit (name_in s nowhere) ns i seen L.invariant.2 (omega arith) told
 
 pub loop-i-preserved : goal.loop-i-preserved
 unfolding names_read names_in
 loop-i-preserved c =
-    let b2 = c in
-    let b3 = c in
-    let d = c in
-    let s = d.args.s.now in
-    let o = d.args.o in
+    let s = c.args.s.now in
+    let o = c.args.o in
     let ns = names_read s o in
-    let long = read_length s o d.requires in
+    let long = read_length s o c.requires in
     let L = c.loop-i in
     let i = L.i in
     let seen = listed s L.seen 0 i in
     let n = lib.ListN.get_or o.items i nowhere in
-    let here = read_at s o d.requires i (omega arith) in
-    let told = ap (λ (x : Name). given x seen) here ∙ sym b3.is_given.ensures ∙ b2.if-is_given.false in
+    let here = read_at s o c.requires i (omega arith) in
+    let told = ap (λ (x : Name). given x seen) here ∙ sym c.is_given.ensures ∙ c.if-is_given.false in
     let at : 0 + i ≡ i = omega arith in
-    let few : i ≤ 8 = omega (arith, d.requires.few) in
+    let few : i ≤ 8 = omega (arith, c.requires.few) in
     let more = ap (λ (x : Name). seen ++ x ∷ []) here
     ∙ sym (ap (λ (t : List ℕ). listed s t 0 (i + 1)) (c.put.ensures
     ∙ ap (λ (j : ℕ). put L.seen j n) (sym at))
@@ -62,10 +58,9 @@ loop-i-preserved c =
 pub returns : goal.returns
 unfolding names_read
 returns c =
-    let d = c in
-    let s = d.args.s.now in
-    let o = d.args.o in
+    let s = c.args.s.now in
+    let o = c.args.o in
     let ns = names_read s o in
-    let long = read_length s o d.requires in
+    let long = read_length s o c.requires in
     let L = c.loop-i in
     repeated-done (name_in s nowhere) ns L.i (listed s L.seen 0 L.i) L.invariant.2 (omega arith)

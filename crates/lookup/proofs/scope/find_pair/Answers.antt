@@ -6,12 +6,11 @@ use Rattle.lookup.proofs.scope.find_pair.Goals as goal
 pub returns : goal.returns
 unfolding pair_found
 returns c =
-    let b = c in
     let o = c.args.o in
     (λ i. record {
-      ok = b.both-ok.ensures i;
-      unknown = b.one_of-unknown.ensures i;
+      ok = c.both-ok.ensures i;
+      unknown = c.one_of-unknown.ensures i;
       op = c.operate-op.ensures i;
       drawn = 0;
     })
-    ∙ (λ i. pair_found o (b.find_term-x.ensures i) (b.find_term-y.ensures i))
+    ∙ (λ i. pair_found o (c.find_term-x.ensures i) (c.find_term-y.ensures i))

@@ -31,9 +31,8 @@ scaled_row-n-requires c =
 
 pub square_terms-requires : goal.square_terms-requires
 square_terms-requires c =
-    let o = c in
     let l = c.loop-j in
-    let a = o.args in
+    let a = c.args in
     let p = c.scaled_row-n in
     let t' = c.t-1 in
     let s = apply_asks a.m a.c a.list a.src.now a.k a.t.now _ l.b l.src l.t l.n l.j
@@ -46,10 +45,8 @@ loop-j-smaller c = omega arith
 
 pub loop-j-preserved : goal.loop-j-preserved
 loop-j-preserved c =
-    let o = c in
-    let e = o in
-    let l = e.loop-j in
-    let a = e.args in
+    let l = c.loop-j in
+    let a = c.args in
     let p = c.scaled_row-n in
     let t' = c.t-1 in
     let s = c.square_terms in

@@ -11,15 +11,13 @@ returns-then-l-eq0 c =
 
 pub product_row-requires : goal.product_row-requires
 product_row-requires c =
-    let y = c in
-    let a = y.args in
-    scaled_row_asks a.b.now a.r a.l a.src.now a.k a.t.now (pos_of_ne a.l y.if-l-eq0.false)
-    y.requires
+    let a = c.args in
+    scaled_row_asks a.b.now a.r a.l a.src.now a.k a.t.now (pos_of_ne a.l c.if-l-eq0.false)
+    c.requires
 
 pub returns : goal.returns
 returns c =
-    let y = c in
-    let a = y.args in
+    let a = c.args in
     let p = c.product_row in
     scaled_row_done a.m a.b.now p.new.b a.r a.l a.src.now a.k (length a.t.now)
-    p.result (pos_of_ne a.l y.if-l-eq0.false) p.ensures
+    p.result (pos_of_ne a.l c.if-l-eq0.false) p.ensures

@@ -60,9 +60,8 @@ term_product-requires c =
 
 pub write_at-requires : goal.write_at-requires
 write_at-requires c =
-    let o = c in
     let l = c.loop-j in
-    let a = o.args in
+    let a = c.args in
     let t' = c.t-1 in
     omega (
       arith,
@@ -73,9 +72,8 @@ write_at-requires c =
 
 pub loop-j-preserved : goal.loop-j-preserved
 loop-j-preserved c =
-    let o = c in
-    let l = o.loop-j in
-    let a = o.args in
+    let l = c.loop-j in
+    let a = c.args in
     let p = c.term_product in
     let t' = c.t-1 in
     let v = c.write_at in

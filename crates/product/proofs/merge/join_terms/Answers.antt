@@ -46,9 +46,8 @@ take_term-requires c =
 pub returns : goal.returns
 unfolding X.◌⊕◌
 returns c =
-    let o = c in
-    let a = o.args in
-    let h = o.requires in
+    let a = c.args in
+    let h = c.requires in
     let t = c.take_term in
     joined-some a.b.now t.new.b a.i a.k a.w
     (get_or a.b.now (a.j * a.w) 0 ⊕ get_or a.b.now (a.i * a.w) 0) h.0 h.1 (here (goal.at.returns c).Start).2

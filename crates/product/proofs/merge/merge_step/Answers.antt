@@ -37,50 +37,42 @@ overflow_add-result-then-o-eq0 c = omega (arith, here (goal.at.overflow_add-resu
 
 pub returns-then-o-eq0 : goal.returns-then-o-eq0
 returns-then-o-eq0 c =
-    let y = c in
-    λ m last l h. step-piece (gf m) h l ((told (goal.at.returns-then-o-eq0 c).After-first_of-o).0 y.if-o-eq0.true) c.take_term.ensures
+    λ m last l h. step-piece (gf m) h l ((told (goal.at.returns-then-o-eq0 c).After-first_of-o).0 c.if-o-eq0.true) c.take_term.ensures
 
 pub take_term-requires-then-o-eq2 : goal.take_term-requires-then-o-eq2
 take_term-requires-then-o-eq2 c =
-    let o = c in
-    let a = o.args in
-    let h = o.requires in
+    let a = c.args in
+    let h = c.requires in
     let u : (a.g.sum + 1) * a.w ≤ (a.g.piece + 1) * a.w = mul-le-mul_right a.w
     (omega (arith, h.sum, h.piece)) in
     (h.some, omega (arith, h.room), omega (arith, h.fits))
 
 pub overflow_add-result-then-o-eq2-2 : goal.overflow_add-result-then-o-eq2-2
 overflow_add-result-then-o-eq2-2 c =
-    let o = c in
-    omega (arith, here (goal.at.overflow_add-result-then-o-eq2-2 c).Start, o.requires.sum, o.requires.piece)
+    omega (arith, here (goal.at.overflow_add-result-then-o-eq2-2 c).Start, c.requires.sum, c.requires.piece)
 
 pub returns-then-o-eq2 : goal.returns-then-o-eq2
 returns-then-o-eq2 c =
-    let y = c in
     λ m last l h.
-    step_sum (gf m) h l ((told (goal.at.returns-then-o-eq2 c).After-first_of-o).1 y.if-o-eq2.true) c.take_term-then-o-eq2.ensures
+    step_sum (gf m) h l ((told (goal.at.returns-then-o-eq2 c).After-first_of-o).1 c.if-o-eq2.true) c.take_term-then-o-eq2.ensures
 
 pub join_terms-n-requires : goal.join_terms-n-requires
 join_terms-n-requires c =
-    let y = c in
-    let o = y in
-    let a = o.args in
-    let h = o.requires in
+    let a = c.args in
+    let h = c.requires in
     let l = facing-left a.b.now a.w a.g.sum a.end a.g.piece Ordering.eq eq≢lt
-    ((told (goal.at.join_terms-n-requires c).After-first_of-o).2 y.if-o-eq0.false y.if-o-eq2.false) in
+    ((told (goal.at.join_terms-n-requires c).After-first_of-o).2 c.if-o-eq0.false c.if-o-eq2.false) in
     (h.some, h.room, omega (arith, h.piece), h.fits)
 
 pub overflow_add-result-2 : goal.overflow_add-result-2
 overflow_add-result-2 c =
-    let o = c in
-    omega (arith, here (goal.at.overflow_add-result-2 c).Start, o.requires.sum, o.requires.piece)
+    omega (arith, here (goal.at.overflow_add-result-2 c).Start, c.requires.sum, c.requires.piece)
 
 pub overflow_add-result-3 : goal.overflow_add-result-3
 overflow_add-result-3 c = omega (arith, here (goal.at.overflow_add-result-3 c).Start)
 
 pub returns : goal.returns
 returns c =
-    let y = c in
     λ m last l h.
-    step_both (gf m) h l ((told (goal.at.returns c).After-first_of-o).2 y.if-o-eq0.false y.if-o-eq2.false)
+    step_both (gf m) h l ((told (goal.at.returns c).After-first_of-o).2 c.if-o-eq0.false c.if-o-eq2.false)
     c.join_terms-n.ensures

@@ -42,22 +42,19 @@ move_up-requires c =
 
 pub overflow_add-last : goal.overflow_add-last
 overflow_add-last c =
-    let o = c in
-    let a = o.args in
-    omega (arith, merge_room a.b.now a.n a.at a.r a.w o.requires)
+    let a = c.args in
+    omega (arith, merge_room a.b.now a.n a.at a.r a.w c.requires)
 
 pub overflow_sub-g : goal.overflow_sub-g
 overflow_sub-g c =
-    let o = c in
-    let a = o.args in
-    omega (arith, merge_room a.b.now a.n a.at a.r a.w o.requires)
+    let a = c.args in
+    omega (arith, merge_room a.b.now a.n a.at a.r a.w c.requires)
 
 pub loop-g-init : goal.loop-g-init
 loop-g-init c =
-    let o = c in
-    let a = o.args in
+    let a = c.args in
     let u = c.move_up in
-    merge_start a.b.now a.n a.at a.r a.w u.new.b o.requires u.ensures
+    merge_start a.b.now a.n a.at a.r a.w u.new.b c.requires u.ensures
 
 pub merge_step-g-requires : goal.merge_step-g-requires
 merge_step-g-requires c =
@@ -69,19 +66,17 @@ merge_step-g-requires c =
 
 pub loop-g-smaller : goal.loop-g-smaller
 loop-g-smaller c =
-    let o = c in
-    let l = o.loop-g in
-    let a = o.args in
+    let l = c.loop-g in
+    let a = c.args in
     let y = c.loop-g-test in
     (c.merge_step-g.ensures 0 (a.at + a.r) y.true l.invariant.left).less
 
 pub loop-g-preserved : goal.loop-g-preserved
 loop-g-preserved c =
-    let o = c in
-    let l = o.loop-g in
-    let a = o.args in
+    let l = c.loop-g in
+    let a = c.args in
     let s = c.merge_step-g in
-    let u = o.move_up in
+    let u = c.move_up in
     merge_more u.new.b a.n a.at a.r a.w l.b l.g.terms l.g.sum l.g.piece l.invariant
     c.loop-g-test.true s.new.b s.result.terms s.result.sum s.result.piece
     s.ensures
@@ -109,14 +104,12 @@ overflow_add-result c = omega (arith, here (goal.at.overflow_add-result c).After
 
 pub returns : goal.returns
 returns c =
-    let o = c in
-    let l = o.loop-g in
-    let e = o in
-    let a = e.args in
+    let l = c.loop-g in
+    let a = c.args in
     let d = c.move_down in
-    let u = o.move_up in
+    let u = c.move_up in
     merge_done u.new.b a.n a.at a.r a.w l.b l.g.terms l.g.sum l.g.piece l.invariant
-    (omega arith) d.new.b a.b.now d.ensures e.requires u.ensures
+    (omega arith) d.new.b a.b.now d.ensures c.requires u.ensures
 
 pub shape_of-b : goal.shape_of-b
 shape_of-b c = (returns c 0).size

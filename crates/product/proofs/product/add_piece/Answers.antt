@@ -19,8 +19,7 @@ overflow_add-at c = omega (arith, here (goal.at.overflow_add-at c).Start)
 
 pub returns-then-b-at : goal.returns-then-b-at
 returns-then-b-at c =
-    let o = c in
-    piece-inserted o.requires o.args.m c.product_row.ensures
+    piece-inserted c.requires c.args.m c.product_row.ensures
 
 pub product_row-r-requires : goal.product_row-r-requires
 product_row-r-requires c = piece_asks c.requires (omega arith)
@@ -33,14 +32,10 @@ overflow_add-n c = omega (
 
 pub merge_terms-requires : goal.merge_terms-requires
 merge_terms-requires c =
-    let p = c in
-    let o = p in
-    piece_merges o.requires (omega arith) o.args.m p.product_row-r.ensures
+    piece_merges c.requires (omega arith) c.args.m c.product_row-r.ensures
 
 pub returns : goal.returns
 returns c =
-    let e = c in
-    let o = e in
     let g = c.merge_terms in
-    piece-merged o.requires (omega arith) o.args.m e.product_row-r.ensures (ring o.args.m (omega arith))
+    piece-merged c.requires (omega arith) c.args.m c.product_row-r.ensures (ring c.args.m (omega arith))
     g.new.b g.result g.ensures

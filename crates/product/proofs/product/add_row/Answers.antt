@@ -53,8 +53,7 @@ add_piece-n-requires c = sum_asks c.loop-rest.invariant c.piece_size-c.ensures.1
 
 pub loop-rest-preserved : goal.loop-rest-preserved
 loop-rest-preserved c =
-    let d = c in
-    sum_more d.loop-rest.invariant d.piece_size-c.ensures.1 c.t-1.given
+    sum_more c.loop-rest.invariant c.piece_size-c.ensures.1 c.t-1.given
     c.add_piece-n.ensures
 
 pub shape_of-b : goal.shape_of-b

@@ -22,32 +22,28 @@ overflow_mul-top c = omega (arith, here (goal.at.overflow_mul-top c).Start)
 
 pub product_rows-requires : goal.product_rows-requires
 product_rows-requires c =
-    let o = c in
-    let a = o.args in
+    let a = c.args in
     turned_asks (part a.b.now 0 (a.i * a.k * length a.t.now)) a.p.now a.i a.q.now a.k
-    a.t.now (lent_asks a.b.now a.p.now a.i a.q.now a.k a.t.now o.requires)
+    a.t.now (lent_asks a.b.now a.p.now a.i a.q.now a.k a.t.now c.requires)
 
 pub returns-then-k-i : goal.returns-then-k-i
 returns-then-k-i c =
-    let o = c in
-    let a = o.args in
+    let a = c.args in
     let r = c.product_rows in
     let w = length a.t.now in
-    product_lent a.m a.b.now a.p.now a.i a.q.now a.k w o.requires.some o.requires.room
+    product_lent a.m a.b.now a.p.now a.i a.q.now a.k w c.requires.some c.requires.room
     r.new.b r.result
     (product_turned a.m (ring a.m (omega arith)) (part a.b.now 0 (a.i * a.k * w)) r.new.b
     a.p.now a.i a.q.now a.k w r.result r.ensures)
 
 pub product_rows-requires-2 : goal.product_rows-requires-2
 product_rows-requires-2 c =
-    let o = c in
-    let a = o.args in
-    lent_asks a.b.now a.p.now a.i a.q.now a.k a.t.now o.requires
+    let a = c.args in
+    lent_asks a.b.now a.p.now a.i a.q.now a.k a.t.now c.requires
 
 pub returns : goal.returns
 returns c =
-    let o = c in
-    let a = o.args in
+    let a = c.args in
     let r = c.product_rows-2 in
-    product_lent a.m a.b.now a.p.now a.i a.q.now a.k (length a.t.now) o.requires.some
-    o.requires.room r.new.b r.result r.ensures
+    product_lent a.m a.b.now a.p.now a.i a.q.now a.k (length a.t.now) c.requires.some
+    c.requires.room r.new.b r.result r.ensures

@@ -41,11 +41,10 @@ overflow_add-at-in-loop-j c = omega (arith, here (goal.at.overflow_add-at-in-loo
 
 pub loop-j-preserved : goal.loop-j-preserved
 loop-j-preserved c =
-    let o = c in
-    let a = o.args in
+    let a = c.args in
     let p = c.term_product in
     let t' = c.t-1 in
-    row_more o.loop-j.invariant (omega arith) p.ensures t'.given (ring a.m (omega arith))
+    row_more c.loop-j.invariant (omega arith) p.ensures t'.given (ring a.m (omega arith))
     (c.insert_term-n.ensures a.m)
 
 pub shape_of-b : goal.shape_of-b

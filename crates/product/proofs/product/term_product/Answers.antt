@@ -56,10 +56,9 @@ write_at-requires c =
 
 pub shape_of-t : goal.shape_of-t
 shape_of-t c =
-    let l = c in
-    let a = l.args in
-    c.write_at.ensures.size ∙ l.loop-j.invariant.4.size
-    ∙ length-set a.t.now 0 l.times.result
+    let a = c.args in
+    c.write_at.ensures.size ∙ c.loop-j.invariant.4.size
+    ∙ length-set a.t.now 0 c.times.result
 
 pub returns : goal.returns
 returns c =

@@ -6,9 +6,8 @@ use Rattle.reader.proofs.formed.too_deep.Goals as goal
 
 pub returns-then-f : goal.returns-then-f
 returns-then-f c =
-    let d = c in
-    let a = d.args in
-    measure_deep d.line_formula-f.result (formula_of (pieces_in a.s.now a.l)) d.line_formula-f.ensures
+    let a = c.args in
+    measure_deep c.line_formula-f.result (formula_of (pieces_in a.s.now a.l)) c.line_formula-f.ensures
     c.if-f.true
 
 pub returns : goal.returns

@@ -23,21 +23,19 @@ look-requires c = placed_in _ _ _ _ c.placed-p.ensures
 pub overflow_add-result : goal.overflow_add-result
 overflow_add-result c =
     let P = c.placed-p in
-    let d = c in
     let a = sym c.in-Unended.is ∙ c.look.ensures in
     record {
       fits = omega (
         arith,
-        (look-unended d.args.s.now P.result _ a).1,
+        (look-unended c.args.s.now P.result _ a).1,
         (placed_in _ _ _ _ P.ensures).1,
-        d.well_formed.0.0,
+        c.well_formed.0.0,
       );
     }
 
 pub returns-in-Line : goal.returns-in-Line
 returns-in-Line c =
-    let b = c in
-    sym (behind-line b.args.s.now b.placed-p.result _ _)
+    sym (behind-line c.args.s.now c.placed-p.result _ _)
     ∙ told (goal.at.returns-in-Line c).After-look c.in-Line.is
 
 pub returns-in-Unended : goal.returns-in-Unended

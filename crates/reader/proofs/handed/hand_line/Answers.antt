@@ -12,8 +12,7 @@ use Rattle.reader.proofs.handed.hand_line.Goals.{After-has_fields}
 
 -- the bytes of the line are allowed
 clean : (c : After-has_fields)
-    → let d = c in
-    all allowed (bytes_of d.args.s.now d.args.l) ≡ true
+    → all allowed (bytes_of c.args.s.now c.args.l) ≡ true
 clean c =
     sym (c.all_allowed.ensures
     ∙ ap (all allowed) c.part.ensures)
@@ -21,23 +20,20 @@ clean c =
 
 -- the word of the line
 told : (c : After-has_fields)
-    → let d = c in
-    c.word_of-w.result ≡ word_of (field_in d.args.s.now d.args.l 0)
+    → c.word_of-w.result ≡ word_of (field_in c.args.s.now c.args.l 0)
 told c =
     c.word_of-w.ensures
     ∙ ap word_of (c.part-then-all_allowed.ensures ∙ c.field-f.ensures.holds)
 
 pub returns-then-nests : goal.returns-then-nests
 returns-then-nests c =
-    let d = c in
-    ap some (line-deep _ _ _ (clean (goal.at.returns-then-nests c).After-has_fields) _ (told (goal.at.returns-then-nests c).After-has_fields) _ d.record-r.ensures
-    (sym c.if-has_fields.true ∙ d.has_fields.ensures) (sym c.if-nests.true ∙ c.nests.ensures))
+    ap some (line-deep _ _ _ (clean (goal.at.returns-then-nests c).After-has_fields) _ (told (goal.at.returns-then-nests c).After-has_fields) _ c.record-r.ensures
+    (sym c.if-has_fields.true ∙ c.has_fields.ensures) (sym c.if-nests.true ∙ c.nests.ensures))
 
 pub returns-then-has_fields : goal.returns-then-has_fields
 returns-then-has_fields c =
-    let d = c in
-    line_record _ _ _ (clean (goal.at.returns-then-has_fields c).After-has_fields) _ (told (goal.at.returns-then-has_fields c).After-has_fields) _ d.record-r.ensures
-    (sym c.if-has_fields.true ∙ d.has_fields.ensures) (sym c.if-nests.false ∙ c.nests.ensures)
+    line_record _ _ _ (clean (goal.at.returns-then-has_fields c).After-has_fields) _ (told (goal.at.returns-then-has_fields c).After-has_fields) _ c.record-r.ensures
+    (sym c.if-has_fields.true ∙ c.has_fields.ensures) (sym c.if-nests.false ∙ c.nests.ensures)
 
 pub returns-then-all_allowed : goal.returns-then-all_allowed
 returns-then-all_allowed c =

@@ -6,8 +6,7 @@ use Rattle.reader.proofs.handed.placed.Goals as goal
 pub returns : goal.returns
 unfolding placed
 returns c =
-    let d = c in
     λ i. record {
       at = c.least-end.ensures i;
-      line = (c.least-n.ensures ∙ ap (least d.args.line) c.least-end.ensures) i;
+      line = (c.least-n.ensures ∙ ap (least c.args.line) c.least-end.ensures) i;
     }

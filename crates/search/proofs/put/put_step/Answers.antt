@@ -63,22 +63,20 @@ bounds-table-e c =
 pub returns-then-same_group : goal.returns-then-same_group
 unfolding X.◌⊕◌
 returns-then-same_group c =
-    let e = c in
-    let a = e.args in
-    let h = e.requires in
+    let a = c.args in
+    let h = c.requires in
     λ x t.
     step_on a.m a.b.now a.k a.w a.i x a.j a.g.terms a.g.sum h
-    (a.g.sum ⊕ e.times.result) (sum-now (goal.at.returns-then-same_group c).After-times x t) (sym c.if-same_group.true ∙ c.same_group.ensures)
+    (a.g.sum ⊕ c.times.result) (sum-now (goal.at.returns-then-same_group c).After-times x t) (sym c.if-same_group.true ∙ c.same_group.ensures)
 
 pub returns-then-sum-eq0 : goal.returns-then-sum-eq0
 unfolding X.◌⊕◌
 returns-then-sum-eq0 c =
-    let e = c in
-    let a = e.args in
-    let h = e.requires in
+    let a = c.args in
+    let h = c.requires in
     λ x t.
     step-none a.m a.b.now a.k a.w a.i x a.j a.g.terms a.g.sum h
-    (a.g.sum ⊕ e.times.result) (sum-now (goal.at.returns-then-sum-eq0 c).After-times x t) (sym c.if-same_group.false ∙ c.same_group.ensures)
+    (a.g.sum ⊕ c.times.result) (sum-now (goal.at.returns-then-sum-eq0 c).After-times x t) (sym c.if-same_group.false ∙ c.same_group.ensures)
     c.if-sum-eq0.true
 
 pub overflow_mul-g : goal.overflow_mul-g
@@ -96,12 +94,10 @@ write_group-requires c =
 pub returns : goal.returns
 unfolding X.◌⊕◌
 returns c =
-    let o = c in
-    let e = o in
-    let a = e.args in
-    let h = e.requires in
+    let a = c.args in
+    let h = c.requires in
     let g' = c.write_group in
     λ x t.
     step_write a.m a.b.now a.k a.w a.i x a.j a.g.terms a.g.sum h
-    (a.g.sum ⊕ e.times.result) (sum-now (goal.at.returns c).After-times x t) g'.new.b
-    (sym o.if-same_group.false ∙ o.same_group.ensures) (pos_of_ne _ o.if-sum-eq0.false) g'.ensures
+    (a.g.sum ⊕ c.times.result) (sum-now (goal.at.returns c).After-times x t) g'.new.b
+    (sym c.if-same_group.false ∙ c.same_group.ensures) (pos_of_ne _ c.if-sum-eq0.false) g'.ensures

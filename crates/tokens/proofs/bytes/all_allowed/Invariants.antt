@@ -1,12 +1,9 @@
 -- `text::bytes::all_allowed` meets its contract: at each `return` the tests that led there say which case of the
 -- definition holds. Assumes nothing.
 use Prim.Native.Nat.{◌≤◌, ◌-◌}
-use Rattle.tokens.proofs.Laws.Scan.{all_pass, all_fail, all_done}
 use Rattle.tokens.specs.Ascii.{all, allowed}
-use borrow.Author.Rules.{rules}
 use lib.ListN.{length, drop}
-use mathlib.Core.Path.{◌≡◌, refl, sym, ◌∙◌}
-use native.Mathlib.Omega.{arith}
+use mathlib.Core.Path.{◌≡◌}
 use Rattle.tokens.proofs.bytes.all_allowed.Given as goal
 
 abbrev pub invariant-loop-i : goal.invariant-loop-i

@@ -1,10 +1,6 @@
-use Prim.Native.Nat.{◌≤◌, ◌-◌, ◌+◌}
 use Rattle.tokens.proofs.Laws.Scan.{until-pass, until_stop, until-done}
-use Rattle.tokens.specs.Ascii.{is_mark}
-use Rattle.tokens.specs.Split.{until}
 use borrow.Author.Rules.{rules}
-use lib.ListN.{length, drop}
-use mathlib.Core.Path.{◌≡◌, refl, sym, ◌∙◌}
+use mathlib.Core.Path.{refl, sym, ◌∙◌}
 use native.Mathlib.Omega.{arith}
 use Rattle.tokens.proofs.bytes.find_mark.Goals as goal
 
@@ -13,14 +9,12 @@ loop-i-init c = (search rules, refl)
 
 pub returns-then-is_mark : goal.returns-then-is_mark
 returns-then-is_mark c =
-    let at = c in
-    until_stop 0 _ _ at.loop-i.i (omega arith) (sym c.is_mark.ensures ∙ c.if-is_mark.true) at.loop-i.invariant.1
+    until_stop 0 _ _ c.loop-i.i (omega arith) (sym c.is_mark.ensures ∙ c.if-is_mark.true) c.loop-i.invariant.1
 
 pub loop-i-preserved : goal.loop-i-preserved
 loop-i-preserved c =
-    let at = c in
     let passed = sym c.is_mark.ensures ∙ c.if-is_mark.false in
-    (omega arith, until-pass 0 _ _ at.loop-i.i (omega arith) passed at.loop-i.invariant.1)
+    (omega arith, until-pass 0 _ _ c.loop-i.i (omega arith) passed c.loop-i.invariant.1)
 
 pub returns : goal.returns
 returns c = until-done 0 _ _ c.loop-i.i (omega arith) c.loop-i.invariant.1

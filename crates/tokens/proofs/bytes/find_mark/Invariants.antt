@@ -1,12 +1,9 @@
 -- The invariant: the mark that is looked for is the first one from `i` on. Assumes nothing.
 use Prim.Native.Nat.{◌≤◌, ◌-◌, ◌+◌}
-use Rattle.tokens.proofs.Laws.Scan.{until-pass, until_stop, until-done}
 use Rattle.tokens.specs.Ascii.{is_mark}
 use Rattle.tokens.specs.Split.{until}
-use borrow.Author.Rules.{rules}
 use lib.ListN.{length, drop}
-use mathlib.Core.Path.{◌≡◌, refl, sym, ◌∙◌}
-use native.Mathlib.Omega.{arith}
+use mathlib.Core.Path.{◌≡◌}
 use Rattle.tokens.proofs.bytes.find_mark.Given as goal
 
 abbrev pub invariant-loop-i : goal.invariant-loop-i

@@ -1,7 +1,6 @@
 -- `bytes::is_allowed` meets its contract: at each `return` the tests that led there say which case of the
 -- definition holds. Assumes nothing.
 use Rattle.tokens.specs.Ascii.{allowed}
-use borrow.Author.Rules.{rules}
 use borrow.Author.Tests.{ne_eqb, eq-eqb}
 use mathlib.Core.Path.{sym, ◌∙◌}
 use Rattle.tokens.proofs.bytes.is_allowed.Goals as goal
@@ -27,10 +26,9 @@ returns-then-b-eq46 c = simp (
 pub returns-then-b-eq-TAB : goal.returns-then-b-eq-TAB
 unfolding allowed
 returns-then-b-eq-TAB c =
-    let d = c in
     simp (
-      sym d.is_name_byte.ensures ∙ d.if-is_name_byte.false,
-      ne_eqb _ _ d.if-b-eq35.false,
+      sym c.is_name_byte.ensures ∙ c.if-is_name_byte.false,
+      ne_eqb _ _ c.if-b-eq35.false,
       ne_eqb _ _ c.if-b-eq46.false,
       eq-eqb _ _ c.if-b-eq-TAB.true,
     )
@@ -38,10 +36,9 @@ returns-then-b-eq-TAB c =
 pub returns : goal.returns
 unfolding allowed
 returns c =
-    let d = c in
     simp (
-      sym d.is_name_byte.ensures ∙ d.if-is_name_byte.false,
-      ne_eqb _ _ d.if-b-eq35.false,
+      sym c.is_name_byte.ensures ∙ c.if-is_name_byte.false,
+      ne_eqb _ _ c.if-b-eq35.false,
       ne_eqb _ _ c.if-b-eq46.false,
       ne_eqb _ _ c.if-b-eq-TAB.false,
     )

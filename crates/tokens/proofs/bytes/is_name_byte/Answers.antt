@@ -1,7 +1,6 @@
 -- `text::bytes::is_name_byte` meets its contract: at each `return` the tests that led there say which case of the
 -- definition holds. Assumes nothing.
 use Rattle.tokens.specs.Ascii.{is_name_byte}
-use borrow.Author.Rules.{rules}
 use mathlib.Core.Path.{sym, ◌∙◌}
 use Rattle.tokens.proofs.bytes.is_name_byte.Goals as goal
 

@@ -1,10 +1,7 @@
-use Prim.Native.Nat.{◌≤◌, ◌-◌}
+use Prim.Native.Nat.{◌-◌}
 use Rattle.tokens.proofs.Laws.Same.{same_length, differ-at, same_none, same_more, same-all}
-use Rattle.tokens.specs.Ascii.{same_bytes}
 use borrow.Author.Rules.{rules}
-use lib.ListN.{length, drop}
-use mathlib.Core.Bool.{true}
-use mathlib.Core.Path.{◌≡◌}
+use lib.ListN.{length}
 use native.Mathlib.Omega.{arith}
 use Rattle.tokens.proofs.bytes.same.Goals as goal
 
@@ -24,11 +21,10 @@ returns-then-a-last c = differ-at _ _ _ c.if-a-last.true
 
 pub loop-i-preserved : goal.loop-i-preserved
 loop-i-preserved c =
-    let at = c in
-    let s = at.args in (
+    let s = c.args in (
       omega arith,
-      same_more s.a.now s.b.now at.if-a-b.false (at.loop-i.i - 1) at.loop-i.i (omega arith)
-          at.loop-i.invariant.0 c.if-a-last.false at.loop-i.invariant.1,
+      same_more s.a.now s.b.now c.if-a-b.false (c.loop-i.i - 1) c.loop-i.i (omega arith)
+          c.loop-i.invariant.0 c.if-a-last.false c.loop-i.invariant.1,
     )
 
 pub returns : goal.returns

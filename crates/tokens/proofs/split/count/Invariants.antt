@@ -1,13 +1,8 @@
 -- The invariant: `n` separators are passed, and the rest of the pieces are those of what is left. Assumes nothing.
 use Prim.Native.Nat.{◌≤◌, ◌-◌, ◌+◌}
-use Rattle.tokens.proofs.Laws.Pieces.{count_same, count-more, count-done}
 use Rattle.tokens.specs.Split.{pieces}
-use borrow.Author.Rules.{rules}
-use borrow.Author.Tests.{eq-eqb, ne_eqb}
 use lib.ListN.{length, drop}
-use mathlib.Core.Logic.{⊎_elim}
 use mathlib.Core.Path.{◌≡◌}
-use native.Mathlib.Omega.{arith}
 use Rattle.tokens.proofs.split.count.Given as goal
 
 abbrev pub invariant-loop-i : goal.invariant-loop-i

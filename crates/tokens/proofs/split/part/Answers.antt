@@ -1,6 +1,5 @@
 -- At each `return` the tests that led there say how much of the part the text has. Assumes nothing.
 use Prim.Native.Nat.{ℕ, ◌-◌}
-use borrow.Author.Rules.{rules}
 use lib.ListN.{length, take, drop, length-drop, drop_of_length-le}
 use lib.Seq.{take-nil, take_all}
 use mathlib.Core.Path.{sym, ap, ◌∙◌}

@@ -1,12 +1,9 @@
 -- The invariant: the piece that is looked for is the one that stands `left` pieces on from `at`. Assumes nothing.
 use Prim.Native.Nat.{◌≤◌}
-use Rattle.tokens.proofs.Laws.Pieces.{piece-next, piece-none, piece-here}
 use Rattle.tokens.specs.Split.{pieces}
-use borrow.Author.Rules.{rules}
 use lib.ListN.{length, drop, get_or}
 use mathlib.Core.List.{[]}
-use mathlib.Core.Path.{◌≡◌, refl}
-use native.Mathlib.Omega.{arith}
+use mathlib.Core.Path.{◌≡◌}
 use Rattle.tokens.proofs.split.piece.Given as goal
 
 abbrev pub invariant-loop-left : goal.invariant-loop-left

@@ -1,10 +1,6 @@
-use Prim.Native.Nat.{◌≤◌, ◌-◌, ◌+◌}
 use Rattle.tokens.proofs.Laws.Pieces.{piece_inside, piece-found, piece-passed, piece-missing}
 use Rattle.tokens.specs.Ascii.{same_bytes}
-use Rattle.tokens.specs.Split.{until, pieces}
-use borrow.Author.Rules.{rules}
-use lib.ListN.{length, drop}
-use mathlib.Core.Path.{◌≡◌, sym, ◌∙◌}
+use mathlib.Core.Path.{sym, ◌∙◌}
 use native.Mathlib.Omega.{arith}
 use Rattle.tokens.proofs.split.piece_of.Goals as goal
 
@@ -17,24 +13,21 @@ slice_bounds-same-end c =
 
 pub returns-then-same : goal.returns-then-same
 returns-then-same c =
-    let at = c in
     let find = c.find-end in
-    piece-found _ _ at.loop-sep.at find.result find.ensures (same_bytes _) at.loop-sep.k at.loop-sep.invariant.2
+    piece-found _ _ c.loop-sep.at find.result find.ensures (same_bytes _) c.loop-sep.k c.loop-sep.invariant.2
     (sym c.same.ensures ∙ c.if-same.true)
 
 pub returns-then-s-end : goal.returns-then-s-end
 returns-then-s-end c =
-    let at = c in
     let find = c.find-end in
-    piece-missing _ _ at.loop-sep.at find.result find.ensures (same_bytes _) at.loop-sep.k at.loop-sep.invariant.2
-    (omega arith) at.loop-sep.invariant.0 (sym c.same.ensures ∙ c.if-same.false)
+    piece-missing _ _ c.loop-sep.at find.result find.ensures (same_bytes _) c.loop-sep.k c.loop-sep.invariant.2
+    (omega arith) c.loop-sep.invariant.0 (sym c.same.ensures ∙ c.if-same.false)
 
 pub loop-sep-preserved : goal.loop-sep-preserved
 loop-sep-preserved c =
-    let at = c in
     let find = c.find-end in (
       omega arith,
       omega arith,
-      piece-passed _ _ at.loop-sep.at find.result find.ensures (same_bytes _) at.loop-sep.k at.loop-sep.invariant.2
+      piece-passed _ _ c.loop-sep.at find.result find.ensures (same_bytes _) c.loop-sep.k c.loop-sep.invariant.2
           (omega arith) (sym c.same.ensures ∙ c.if-same.false),
     )

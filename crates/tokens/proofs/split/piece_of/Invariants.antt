@@ -1,12 +1,9 @@
 -- The invariant: no piece before place `at` has the bytes, and k of them stand there. Assumes nothing.
 use Prim.Native.Nat.{◌≤◌, ◌-◌, ◌+◌}
-use Rattle.tokens.proofs.Laws.Pieces.{piece_inside, piece-found, piece-passed, piece-missing}
 use Rattle.tokens.specs.Ascii.{same_bytes}
 use Rattle.tokens.specs.Split.{until, pieces}
-use borrow.Author.Rules.{rules}
 use lib.ListN.{length, drop}
-use mathlib.Core.Path.{◌≡◌, sym, ◌∙◌}
-use native.Mathlib.Omega.{arith}
+use mathlib.Core.Path.{◌≡◌}
 use Rattle.tokens.proofs.split.piece_of.Given as goal
 
 abbrev pub invariant-loop-sep : goal.invariant-loop-sep

@@ -1,6 +1,5 @@
 -- A digit is 16, or both are below it. Assumes nothing.
 use borrow.Author.Tests.{le-ltb, lt-ltb}
-use borrow.Author.Rules.{rules}
 use Rattle.tokens.proofs.token.byte_of.Goals as goal
 
 pub returns-then-a-ge16 : goal.returns-then-a-ge16

@@ -4,7 +4,6 @@ use Rattle.tokens.proofs.Laws.Answers.{constant_of, constant-from}
 use Rattle.tokens.specs.Answer.{number_read, term_read}
 use Rattle.tokens.specs.Token.{read_constant, read_hex}
 use Rattle.tokens.specs.declared.token.Number.{Number}
-use borrow.Author.Rules.{rules}
 use lib.ListN.{length, take, drop, length-drop}
 use lib.Seq.{take_all}
 use mathlib.Core.List.{List}

@@ -1,7 +1,6 @@
 -- There is not one byte, or it decides. Assumes nothing.
 use Rattle.tokens.specs.Token.{read_count}
 use borrow.Author.Tests.{eq-eqb, ne_eqb}
-use borrow.Author.Rules.{rules}
 use Rattle.tokens.proofs.token.count.Goals as goal
 
 pub returns-then-f-ne1 : goal.returns-then-f-ne1

@@ -1,6 +1,5 @@
 -- The byte is below the lowest, above the highest, or between. Assumes nothing.
 use borrow.Author.Tests.{lt-leb, le-leb}
-use borrow.Author.Rules.{rules}
 use Rattle.tokens.proofs.token.digit.Goals as goal
 
 pub returns-then-b-low : goal.returns-then-b-low

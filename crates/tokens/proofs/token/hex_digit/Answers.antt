@@ -1,6 +1,5 @@
 -- At each `return` the tests that led there say which case of `hex_digit` holds. Assumes nothing.
 use Rattle.tokens.specs.Token.{hex_digit}
-use borrow.Author.Rules.{rules}
 use borrow.Author.Tests.{lt-leb, le-leb}
 use native.Mathlib.Omega.{arith}
 use Rattle.tokens.proofs.token.hex_digit.Goals as goal

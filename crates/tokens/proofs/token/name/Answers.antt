@@ -4,7 +4,6 @@ use Rattle.tokens.proofs.Laws.Answers.{run_le, name_of, name-from}
 use Rattle.tokens.specs.Answer.{number_read, name_read}
 use Rattle.tokens.specs.Token.{read_part, read_name}
 use Rattle.tokens.specs.declared.token.Number.{Number}
-use borrow.Author.Rules.{rules}
 use borrow.Author.Tests.{lt-leb, le-leb}
 use mathlib.Core.Path.{◌≡◌}
 use mathlib.Core.Path.{sym, ap, ◌∙◌}

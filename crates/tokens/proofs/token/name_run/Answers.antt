@@ -1,10 +1,7 @@
-use Prim.Native.Nat.{◌≤◌, ◌-◌, ◌+◌}
 use Rattle.tokens.proofs.Laws.Scan.{until-pass, until_stop, until-done}
 use Rattle.tokens.specs.Token.{name_run}
-use borrow.Author.Rules.{rules}
-use lib.ListN.{length, drop}
 use mathlib.Core.Bool.{not}
-use mathlib.Core.Path.{◌≡◌, sym, ap, ◌∙◌}
+use mathlib.Core.Path.{sym, ap, ◌∙◌}
 use native.Mathlib.Omega.{arith}
 use Rattle.tokens.proofs.token.name_run.Goals as goal
 
@@ -13,18 +10,17 @@ loop-i-init c = omega arith
 
 pub loop-i-preserved : goal.loop-i-preserved
 unfolding name_run
-loop-i-preserved c = let at = c in (
-      omega arith,
-      until-pass 0 _ _ at.loop-i.i (omega arith)
-          (ap not (sym c.is_name_byte.ensures ∙ c.if-is_name_byte.true)) at.loop-i.invariant.1,
-    )
+loop-i-preserved c = (
+  omega arith,
+  until-pass 0 _ _ c.loop-i.i (omega arith)
+      (ap not (sym c.is_name_byte.ensures ∙ c.if-is_name_byte.true)) c.loop-i.invariant.1,
+)
 
 pub returns-else-is_name_byte : goal.returns-else-is_name_byte
 unfolding name_run
 returns-else-is_name_byte c =
-    let at = c in
-    until_stop 0 _ _ at.loop-i.i (omega arith) (ap not (sym c.is_name_byte.ensures ∙ c.if-is_name_byte.false))
-    at.loop-i.invariant.1
+    until_stop 0 _ _ c.loop-i.i (omega arith) (ap not (sym c.is_name_byte.ensures ∙ c.if-is_name_byte.false))
+    c.loop-i.invariant.1
 
 pub returns : goal.returns
 unfolding name_run

@@ -1,12 +1,8 @@
 -- The invariant: the first `i` bytes are name bytes. Assumes nothing.
 use Prim.Native.Nat.{◌≤◌, ◌-◌, ◌+◌}
-use Rattle.tokens.proofs.Laws.Scan.{until-pass, until_stop, until-done}
 use Rattle.tokens.specs.Token.{name_run}
-use borrow.Author.Rules.{rules}
 use lib.ListN.{length, drop}
-use mathlib.Core.Bool.{not}
-use mathlib.Core.Path.{◌≡◌, sym, ap, ◌∙◌}
-use native.Mathlib.Omega.{arith}
+use mathlib.Core.Path.{◌≡◌}
 use Rattle.tokens.proofs.token.name_run.Given as goal
 
 abbrev pub invariant-loop-i : goal.invariant-loop-i

@@ -3,7 +3,6 @@ use Prim.Native.Nat.{ℕ, ◌+◌, ◌-◌}
 use Rattle.tokens.specs.Ascii.{dot, within}
 use Rattle.tokens.specs.Answer.{number_read}
 use Rattle.tokens.specs.Token.{read_part, provided}
-use borrow.Author.Rules.{rules}
 use borrow.Author.Tests.{eq-eqb, ne_eqb}
 use lib.ListN.{length, get_or}
 use mathlib.Core.List.{List}

@@ -1,7 +1,6 @@
 -- A constant where the first byte is #, else the answer of `name`. Assumes nothing.
 use Rattle.tokens.proofs.Laws.Answers.{term_of, term-from}
 use Rattle.tokens.specs.Token.{read_term}
-use borrow.Author.Rules.{rules}
 use borrow.Author.Tests.{eq-eqb, ne_eqb}
 use mathlib.Core.Path.{sym, ap, ◌∙◌}
 use Rattle.tokens.proofs.token.term.Goals as goal

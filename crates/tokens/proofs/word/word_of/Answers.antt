@@ -4,7 +4,6 @@ use Rattle.tokens.specs.Ascii.{ascii}
 use Rattle.tokens.specs.Split.{cut, pieces}
 use Rattle.tokens.specs.Word.{words, word_of}
 use Rattle.tokens.specs.declared.word.Word.TheVariants.{Unknown}
-use borrow.Author.Rules.{rules}
 use Rattle.tokens.proofs.word.word_of.Goals as goal
 
 pub bounds-words-k : goal.bounds-words-k

@@ -8,37 +8,34 @@ use Prim.Native.Nat.{◌+◌}
 use native.Mathlib.Omega.{arith}
 use mathlib.Core.Bool.{Bool, cond}
 use mathlib.Core.Path.{refl, ap, sym, ◌∙◌}
-use borrow.Author.Rules.{rules}
-use Rattle.text.proofs.read.end.Statement.{statement}
-use Rattle.text.proofs.read.end.Tie as tie
+use Rattle.text.proofs.read.end.Goals as goal
 
-add-past : tie.Need-overflow-add-past
-add-past c = search rules
+pub refuse-requires : goal.refuse-requires
+refuse-requires c = λ z. absurd (omega (arith, z))
 
-refuse-requires : tie.Need-refuse-requires
-refuse-requires c κs = λ z. absurd (omega (arith, z))
-
-returns : tie.Need-returns
-returns c = λ s t.
-    let a = c.before.before.before.args in
+pub returns-then-k-ne-AT_END : goal.returns-then-k-ne-AT_END
+returns-then-k-ne-AT_END c =
+    λ s t.
+    let a = c.args in
     let h = kept t a.k (arrays a.maps a.statements) in
     record {
       answer = c.refuse.ensures.answer
           ∙ ap (λ (b : Bool). cond b (accepted (routine (state_in s h) a.n)) (refused 6 (a.n + 1)))
-          (sym (ne_eqb a.k.stage 6 c.before.if1.true));
+          (sym (ne_eqb a.k.stage 6 c.if-k-ne-AT_END.true));
       taken = c.refuse.ensures.taken;
       held = c.refuse.ensures.held;
     }
 
-returns-2 : tie.Need-returns-2
+pub returns : goal.returns
 unfolding reading_of routine_of routine state_in maps_of origin_of masked_of outputs_of
-returns-2 c = λ s t.
-    let a = c.before.before.before.args in
+returns c =
+    λ s t.
+    let a = c.args in
     let h = kept t a.k (arrays a.maps a.statements) in
-    let K = c.before.before.before.requires.0 in
+    let K = c.requires.0 in
     record {
       answer = ap (λ (b : Bool). cond b (accepted (routine (state_in s h) a.n)) (refused 6 (a.n + 1)))
-          (sym (eq-eqb a.k.stage 6 c.before.if1.false));
+          (sym (eq-eqb a.k.stage 6 c.if-k-ne-AT_END.false));
       taken = λ z. refl;
       held = record {
         mapped = K.mapped;
@@ -48,12 +45,3 @@ returns-2 c = λ s t.
         named = K.named;
       };
     }
-
-pub end-spec : {M : Type 1} → statement M
-end-spec =
-    tie.close
-    (tie.spec
-    add-past
-    refuse-requires
-    returns
-    returns-2)
