@@ -33,7 +33,7 @@ count-idle-requires c κs =
     let origin-scope = c.before.before.before.before.before.before.before.before.origin-scope in
     let place = c.before.before.before.before.before.before.before.place in
     result-held s.requires (located_at s.args.r s.args.d _ _ origin-scope.ensures place.ensures)
-    c.type_size.ensures c.before.before.before.before.load.ensures
+    c.size-of.ensures c.before.before.before.before.load.ensures
 
 same_length : tie.Need-same-length
 same_length c = search rules
@@ -44,7 +44,7 @@ returns c =
     let origin-scope = c.before.before.before.before.before.before.before.before.before.origin-scope in
     let place = c.before.before.before.before.before.before.before.before.place in
     result-idle s.requires (located_at s.args.r s.args.d _ _ origin-scope.ensures place.ensures)
-    c.before.type_size.ensures c.before.before.before.before.before.load.ensures c.count-idle.ensures
+    c.before.size-of.ensures c.before.before.before.before.before.load.ensures c.count-idle.ensures
 
 pub idle_spec : {M : Type 1} → statement M
 idle_spec =
