@@ -1,9 +1,9 @@
 // Reads a text from standard input, judges it and prints one line. A failed read prints none.
 #![tactic(auto)]
 
-ghost use Rattle.io.specs.Counts.{IsPrefixLen};
+ghost use Rattle.std.specs.Counts.{IsPrefixLen};
 
-use libc::{STDERR_FILENO, STDIN_FILENO, STDOUT_FILENO};
+use std::io::{Read, Write};
 
 // What came from standard input: how many bytes, unless a read failed.
 #[derive(Clone, Copy)]
@@ -13,25 +13,27 @@ struct Input {
 }
 
 // The text is read up to one byte more than it may have, which judge then refuses.
-fn main() {
+fn main(rt: HostRuntime) {
     let mut text = [0u8; 16385];
-    let input = read_text(&mut text);
+    let input = read_text(&mut rt.stdin(), &mut text);
     if input.failed {
-        io::write_all(STDERR_FILENO, b"bench: standard input could not be read\n");
+        let _ = eprintln!(rt; "bench: standard input could not be read");
         return;
     }
     let n = input.count;
-    print_answer(&text[..n]);
+    if !print_answer(&mut rt.stdout(), &text[..n]) {
+        let _ = eprintln!(rt; "bench: the line could not be written");
+    }
 }
 
-// Reads standard input until text is full or the input ends.
-fn read_text(text: &mut [u8]) -> Input
+// Reads until text is full or the input ends.
+fn read_text(reader: &mut impl Read, text: &mut [u8]) -> Input
     ensures { IsPrefixLen result.count text.new }
 {
     let mut at = 0;
     // the bytes before at are read
     while at < text.len() {
-        let input = read_some(&mut text[at..]);
+        let input = read_some(reader, &mut text[at..]);
         if input.failed {
             return Input {
                 failed: true,
@@ -50,22 +52,24 @@ fn read_text(text: &mut [u8]) -> Input
 }
 
 // Reads once.
-fn read_some(part: &mut [u8]) -> Input
+fn read_some(reader: &mut impl Read, part: &mut [u8]) -> Input
     ensures { IsPrefixLen result.count part.new }
 {
-    let got = libc::read(STDIN_FILENO, part);
-    let n = io::count(got, part);
-    Input {
-        failed: got < 0,
-        count: n,
+    match reader.read(part) {
+        Ok(n) => Input {
+            failed: false,
+            count: n,
+        },
+        Err(_) => Input {
+            failed: true,
+            count: 0,
+        },
     }
 }
 
-// Judges a text and writes its line.
-fn print_answer(text: &[u8]) {
+// Judges a text and writes its line; false where it could not be written.
+fn print_answer(writer: &mut impl Write, text: &[u8]) -> bool {
     let mut out = [0u8; 256];
     let n = print::answer(text, &mut out);
-    if !io::write_all(STDOUT_FILENO, &out[..n]) {
-        io::write_all(STDERR_FILENO, b"bench: the line could not be written\n");
-    }
+    writer.write_all(&out[..n]).is_ok()
 }

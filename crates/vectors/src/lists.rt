@@ -3,6 +3,7 @@ ghost use Rattle.std.specs.Prelude.{◌≤◌};
 
 use crate::show::{end_line, print_number, print_small, print_word};
 use judge::judge_with;
+use std::io::Write;
 use verdict::report::Trials;
 use verdict::trials::default_trials;
 
@@ -22,24 +23,32 @@ const BEFORE: u8 = 0xff;
 
 // Prints the answers for a text, with each buffer at its least length, and one below; and so with
 // too many trials.
-pub(crate) fn print_lists(text: &[u8]) {
+pub(crate) fn print_lists(output: &mut impl Write, text: &[u8]) {
     let t = default_trials();
-    print_judged(b"least", text, t, WORK, WORK, LIST);
-    print_judged(b"short_list", text, t, WORK, WORK, LIST - 1);
-    print_judged(b"short_left", text, t, WORK - 1, WORK, LIST);
-    print_judged(b"short_right", text, t, WORK, WORK - 1, LIST);
-    print_judged(b"many", text, TOO_MANY, WORK, WORK, LIST);
-    print_judged(b"many_short", text, TOO_MANY, WORK, WORK, LIST - 1);
+    print_judged(output, b"least", text, t, WORK, WORK, LIST);
+    print_judged(output, b"short_list", text, t, WORK, WORK, LIST - 1);
+    print_judged(output, b"short_left", text, t, WORK - 1, WORK, LIST);
+    print_judged(output, b"short_right", text, t, WORK, WORK - 1, LIST);
+    print_judged(output, b"many", text, TOO_MANY, WORK, WORK, LIST);
+    print_judged(output, b"many_short", text, TOO_MANY, WORK, WORK, LIST - 1);
 }
 
 // Prints what a text leaves of each buffer, one byte longer than asked.
-pub(crate) fn print_kept(name: &[u8], text: &[u8], t: Trials) {
-    print_judged(name, text, t, WORK + 1, WORK + 1, LIST + 1);
+pub(crate) fn print_kept(output: &mut impl Write, name: &[u8], text: &[u8], t: Trials) {
+    print_judged(output, name, text, t, WORK + 1, WORK + 1, LIST + 1);
 }
 
 // Judges a text in buffers of these lengths and prints the refusal's number, and how many bytes of
 // each buffer are as they were.
-fn print_judged(name: &[u8], text: &[u8], t: Trials, left: usize, right: usize, list: usize) {
+fn print_judged(
+    output: &mut impl Write,
+    name: &[u8],
+    text: &[u8],
+    t: Trials,
+    left: usize,
+    right: usize,
+    list: usize,
+) {
     let mut lefts = [BEFORE; 65281];
     let mut rights = [BEFORE; 65281];
     let mut bytes = [BEFORE; 17];
@@ -53,13 +62,13 @@ fn print_judged(name: &[u8], text: &[u8], t: Trials, left: usize, right: usize, 
         &mut rights[0..right],
         &mut bytes[0..list],
     );
-    print_word(name);
-    print_word(b"_kept");
-    print_small(report.refusal);
-    print_number(unchanged_work(&lefts, left));
-    print_number(unchanged_work(&rights, right));
-    print_number(unchanged_list(&bytes, list));
-    end_line();
+    print_word(output, name);
+    print_word(output, b"_kept");
+    print_small(output, report.refusal);
+    print_number(output, unchanged_work(&lefts, left));
+    print_number(output, unchanged_work(&rights, right));
+    print_number(output, unchanged_list(&bytes, list));
+    end_line(output);
 }
 
 // How many of the first `count` bytes of a work buffer are as they were.

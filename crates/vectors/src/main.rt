@@ -11,9 +11,11 @@ mod show;
 mod stored;
 mod tables;
 
-fn main() {
-    tables::print_sbox();
-    tables::print_coefficients();
-    runs::print_maps();
-    cases::print_cases();
+fn main(rt: HostRuntime) {
+    let mut input = rt.stdin();
+    let mut output = rt.stdout();
+    tables::print_sbox(&mut output);
+    tables::print_coefficients(&mut output);
+    runs::print_maps(&mut output);
+    cases::print_cases(&mut input, &mut output);
 }

@@ -3,18 +3,19 @@ use crate::show::{end_line, print_number, print_small, print_word};
 use grammar::line::Line;
 use reader::cursor::Cursor;
 use reader::handed::{Handed, behind, hand_out};
+use std::io::Write;
 
 // More records than each of the texts has.
 const ENOUGH: usize = 40;
 
 // Prints what is handed out at the first place of a text, then behind it, and so on, to its end and
 // on.
-pub(crate) fn print_records(text: &[u8]) {
+pub(crate) fn print_records(output: &mut impl Write, text: &[u8]) {
     let mut at = 0;
     let mut line = 0;
     let mut i: usize = 0;
     while i < ENOUGH {
-        print_at(text, at, line);
+        print_at(output, text, at, line);
         let place = behind(text, at, line);
         at = place.at;
         line = place.line;
@@ -23,27 +24,27 @@ pub(crate) fn print_records(text: &[u8]) {
 }
 
 // Prints what is handed out at a place.
-fn print_at(text: &[u8], at: usize, line: usize) {
+fn print_at(output: &mut impl Write, text: &[u8], at: usize, line: usize) {
     match hand_out(text, at, line) {
-        Handed::Record(l, r, c) => print_record(l, c),
-        Handed::Refused(e, c) => print_refused(e, c),
-        Handed::End => print_word(b"end\n"),
+        Handed::Record(l, r, c) => print_record(output, l, c),
+        Handed::Refused(e, c) => print_refused(output, e, c),
+        Handed::End => print_word(output, b"end\n"),
     }
 }
 
 // Prints the number of a record's line, and where the line stands.
-fn print_record(l: Line, c: Cursor) {
-    print_word(b"record");
-    print_number(c.line);
-    print_number(l.from);
-    print_number(l.len);
-    end_line();
+fn print_record(output: &mut impl Write, l: Line, c: Cursor) {
+    print_word(output, b"record");
+    print_number(output, c.line);
+    print_number(output, l.from);
+    print_number(output, l.len);
+    end_line(output);
 }
 
 // Prints the number of a refused line, and its refusal's.
-fn print_refused(e: u8, c: Cursor) {
-    print_word(b"refused");
-    print_number(c.line);
-    print_small(e);
-    end_line();
+fn print_refused(output: &mut impl Write, e: u8, c: Cursor) {
+    print_word(output, b"refused");
+    print_number(output, c.line);
+    print_small(output, e);
+    end_line(output);
 }

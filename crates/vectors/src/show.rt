@@ -1,9 +1,9 @@
-// Names, bytes and line feeds on standard output.
-use libc::STDOUT_FILENO;
+// Names, bytes and line feeds on an output. A write that fails is passed over.
+use std::io::Write;
 
 // Writes some bytes as they are.
-pub(crate) fn print_word(word: &[u8]) {
-    io::write_all(STDOUT_FILENO, word);
+pub(crate) fn print_word(output: &mut impl Write, word: &[u8]) {
+    let _ = output.write_all(word);
 }
 
 // The hex digit of a number below 16.
@@ -17,40 +17,39 @@ fn digit(n: u8) -> u8 {
 }
 
 // Writes a tab and a byte's two hex digits.
-pub(crate) fn print_byte(byte: u8) {
+pub(crate) fn print_byte(output: &mut impl Write, byte: u8) {
     let high = digit(byte / 16);
     let low = digit(byte % 16);
     let pair: [u8; 3] = [b'\t', high, low];
-    io::write_all(STDOUT_FILENO, &pair);
+    print_word(output, &pair);
 }
 
 // Writes eight bytes, each as a tab and two hex digits.
-pub(crate) fn print_bytes(list: [u8; 8]) {
+pub(crate) fn print_bytes(output: &mut impl Write, list: [u8; 8]) {
     let mut j: usize = 0;
     while j < 8 {
-        print_byte(list[j]);
+        print_byte(output, list[j]);
         j += 1;
     }
 }
 
 // Writes the hex digit of a number below 16.
-pub(crate) fn print_digit(n: u8) {
+pub(crate) fn print_digit(output: &mut impl Write, n: u8) {
     let one: [u8; 1] = [digit(n)];
-    io::write_all(STDOUT_FILENO, &one);
+    print_word(output, &one);
 }
 
 // Writes a tab and a number in decimal.
-pub(crate) fn print_number(n: usize) {
-    io::write_all(STDOUT_FILENO, b"\t");
-    io::print_decimal(STDOUT_FILENO, n as u64);
+pub(crate) fn print_number(output: &mut impl Write, n: usize) {
+    let _ = write!(output, "\t{n}");
 }
 
 // Writes a tab and a byte as a number in decimal.
-pub(crate) fn print_small(byte: u8) {
-    print_number(byte as usize);
+pub(crate) fn print_small(output: &mut impl Write, byte: u8) {
+    print_number(output, byte as usize);
 }
 
 // Ends a line.
-pub(crate) fn end_line() {
-    io::write_all(STDOUT_FILENO, b"\n");
+pub(crate) fn end_line(output: &mut impl Write) {
+    print_word(output, b"\n");
 }

@@ -1,17 +1,17 @@
 // What is read of a case: its first line, the name and the numbers in it, and its text.
 ghost use Rattle.std.specs.Prelude.{◌<◌, ◌≤◌, length};
-ghost use Rattle.io.specs.Counts.{IsPrefixLen};
+ghost use Rattle.std.specs.Counts.{IsPrefixLen};
 
-use libc::STDIN_FILENO;
+use std::io::Read;
 use tokens::split::{part, piece};
 
 // Reads a line up to its line feed, or what of it has room; how many bytes it has.
-pub(crate) fn read_line(line: &mut [u8]) -> usize
+pub(crate) fn read_line(input: &mut impl Read, line: &mut [u8]) -> usize
     ensures { IsPrefixLen result line.new }
 {
     let mut i = 0;
     while i < line.len() {
-        let byte = read_byte();
+        let byte = read_byte(input);
         if byte == b'\n' {
             return i;
         }
@@ -22,21 +22,47 @@ pub(crate) fn read_line(line: &mut [u8]) -> usize
 }
 
 // The next byte of the input, and a line feed at its end.
-fn read_byte() -> u8 {
+fn read_byte(input: &mut impl Read) -> u8 {
     let mut one = [b'\n'; 1];
-    io::read_full(STDIN_FILENO, &mut one);
+    read_full(input, &mut one);
     one[0]
 }
 
 // Reads a text of so many bytes, or what of it has room, and the line feed behind it; how many
 // bytes it has.
-pub(crate) fn read_text(text: &mut [u8], count: usize) -> usize
+pub(crate) fn read_text(input: &mut impl Read, text: &mut [u8], count: usize) -> usize
     ensures { IsPrefixLen result text.new }
 {
     let end = least(count, text.len());
-    let n = io::read_full(STDIN_FILENO, &mut text[0..end]);
-    read_byte();
+    let n = read_full(input, &mut text[0..end]);
+    read_byte(input);
     least(n, end)
+}
+
+// Reads until part is full, the input ends or a read fails; how many bytes came.
+fn read_full(input: &mut impl Read, part: &mut [u8]) -> usize
+    ensures { IsPrefixLen result part.new }
+{
+    let mut done = 0;
+    // the bytes before done are read
+    while done < part.len() {
+        let n = read_some(input, &mut part[done..]);
+        if n == 0 {
+            break;
+        }
+        done += n;
+    }
+    done
+}
+
+// Reads once; how many bytes came, none where the read failed.
+fn read_some(input: &mut impl Read, part: &mut [u8]) -> usize
+    ensures { IsPrefixLen result part.new }
+{
+    match input.read(part) {
+        Ok(n) => n,
+        Err(_) => 0,
+    }
 }
 
 // The lesser of two numbers.

@@ -1,5 +1,6 @@
 // The S-box of FIPS 197 and the coefficients of two maps, by the functions of crate field.
 use crate::show::{end_line, print_byte, print_bytes, print_digit, print_word};
+use std::io::Write;
 
 // The low byte of the modulus.
 const MODULUS: u8 = 0x1b;
@@ -18,36 +19,36 @@ fn sbox(x: u8) -> u8 {
 }
 
 // Prints the row of the S-box for one high digit.
-fn print_row(high: u8) {
-    print_word(b"sbox_");
-    print_digit(high);
+fn print_row(output: &mut impl Write, high: u8) {
+    print_word(output, b"sbox_");
+    print_digit(output, high);
     let mut low: u8 = 0;
     while low < 16 {
-        print_byte(sbox(high % 16 * 16 + low));
+        print_byte(output, sbox(high % 16 * 16 + low));
         low += 1;
     }
-    end_line();
+    end_line(output);
 }
 
 // Prints the S-box, one row for each high digit.
-pub(crate) fn print_sbox() {
+pub(crate) fn print_sbox(output: &mut impl Write) {
     let mut high: u8 = 0;
     while high < 16 {
-        print_row(high);
+        print_row(output, high);
         high += 1;
     }
 }
 
 // Prints the eight coefficients of the map with these columns.
-fn print_list(columns: [u8; 8]) {
-    print_bytes(field::coefficients(MODULUS, columns));
-    end_line();
+fn print_list(output: &mut impl Write, columns: [u8; 8]) {
+    print_bytes(output, field::coefficients(MODULUS, columns));
+    end_line(output);
 }
 
 // Prints the coefficients of the two maps of the rules.
-pub(crate) fn print_coefficients() {
-    print_word(b"fips_map");
-    print_list(FIPS_COLUMNS);
-    print_word(b"square_map");
-    print_list(SQUARE_COLUMNS);
+pub(crate) fn print_coefficients(output: &mut impl Write) {
+    print_word(output, b"fips_map");
+    print_list(output, FIPS_COLUMNS);
+    print_word(output, b"square_map");
+    print_list(output, SQUARE_COLUMNS);
 }
