@@ -6,7 +6,6 @@ use native.Mathlib.Omega.{arith}
 use native.Mathlib.Nat.{zero-mul}
 use mathlib.Core.Bool.{Bool, true, false}
 use mathlib.Core.List.{List, [], ◌∷◌}
-use mathlib.Core.Option.{none}
 use lib.Dec.{ltb, eqb}
 use lib.ListN.{length}
 use borrow.Author.Tests.{ltb-false}
@@ -16,8 +15,7 @@ use Rattle.tokens.specs.declared.word.Word.TheVariants.{Rand, Result, Masked, Ou
 use Rattle.rules.specs.declared.types.Statement.{Statement}
 use Rattle.tokens.specs.Token.{Name}
 use Rattle.grammar.specs.Formula.{Formula}
-use Rattle.grammar.specs.Record.{Form, set, xor, mul, app, rand, Record, shares, origin, assign, letting}
-use Rattle.grammar.specs.Record.{masked}
+use Rattle.grammar.specs.Record.{Form, set, xor, mul, app, rand, Record, assign, letting}
 use Rattle.rules.specs.Order.{at_start, in_masked, may_stand, stage_after}
 use Rattle.rules.specs.State.{State, start}
 use Rattle.rules.specs.Grown.{at_stage, with_shares, with_map, with_input}

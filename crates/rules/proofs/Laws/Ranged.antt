@@ -9,9 +9,7 @@ use lib.Dec.{eqb}
 use lib.ListN.{length}
 use borrow.Author.Tests.{eqb-true, not-false}
 use Rattle.tokens.specs.declared.word.Word.{Word}
-use Rattle.rules.specs.declared.types.Op.TheVariants as Op
-use Rattle.grammar.specs.Record.{set, xor, mul, app, rand, Record, shares, origin, result}
-use Rattle.grammar.specs.Record.{masked}
+use Rattle.grammar.specs.Record.{set, xor, mul, app, rand, Record}
 use Rattle.rules.specs.Order.{at_start, in_maps, in_inputs, in_origin, at_result, in_masked, stage_after}
 use Rattle.rules.specs.State.{State}
 use Rattle.rules.specs.Grown.{at_stage}

@@ -24,7 +24,7 @@ use Rattle.rules.specs.State.{State}
 use Rattle.rules.specs.Grown.{at_stage}
 use Rattle.rules.specs.Stated.{unnamed}
 use Rattle.rules.specs.Scope.{place_of, given, unknown_formula, let_count}
-use Rattle.rules.specs.Faults.{block, repeats, reads_unknown, statement_count}
+use Rattle.rules.specs.Faults.{repeats, reads_unknown, statement_count}
 use Rattle.rules.specs.Scope.{let_ops}
 use Rattle.rules.specs.Faults.{exceeds}
 use Rattle.unrolled.specs.Unrolled.{unnamed_in, free_names, let_names, let_lines, record_of, names_for}

@@ -11,15 +11,13 @@ use lib.Seq.{take-suc, take-length}
 use Rattle.tokens.specs.Byte.{Each}
 use Rattle.tokens.specs.Token.{Name}
 use Rattle.grammar.specs.declared.record.Binary.{Binary}
-use Rattle.grammar.specs.declared.record.Binary.TheVariants as Binary
 use Rattle.grammar.specs.Formula.{Formula, operand, operations}
 use Rattle.grammar.specs.Formula as formula
-use Rattle.grammar.specs.Record.{Form, set, xor, mul, app}
+use Rattle.grammar.specs.Record.{Form, set, app}
 use Rattle.grammar.specs.Written.{written_line}
 use Rattle.grammar.proofs.Laws.Written.{SpeltForm, word_for}
 use Rattle.grammar.proofs.Laws.Spelt.{Spelt}
 use Rattle.rules.specs.declared.types.Op.{Op}
-use Rattle.rules.specs.declared.types.Op.TheVariants as Op
 use Rattle.rules.specs.declared.types.Statement.{Statement}
 use Rattle.rules.specs.Order.{may_stand}
 use Rattle.rules.specs.State.{State}

@@ -14,7 +14,6 @@ use Rattle.tokens.specs.Token.{Name, Term, name, byte}
 use Rattle.tokens.proofs.Laws.Written.{Named}
 use Rattle.tokens.proofs.Laws.Terms.{Termed, named-termed}
 use Rattle.grammar.specs.declared.record.Binary.{Binary}
-use Rattle.grammar.specs.declared.record.Binary.TheVariants as Binary
 use Rattle.grammar.specs.Formula.{Formula, operand, operations}
 use Rattle.grammar.specs.Formula as formula
 use Rattle.grammar.specs.Record.{Form, xor, mul}
@@ -23,7 +22,6 @@ use Rattle.grammar.proofs.Laws.Spelt.{Spelt}
 use Rattle.rules.specs.declared.types.Operand.{Operand}
 use Rattle.rules.specs.declared.types.Operand.TheVariants.{Place}
 use Rattle.rules.specs.declared.types.Op.{Op}
-use Rattle.rules.specs.declared.types.Op.TheVariants as Op
 use Rattle.rules.specs.Limits.{most_variables, most_statements}
 use Rattle.rules.specs.Order.{in_masked, may_stand}
 use Rattle.rules.specs.State.{State}
