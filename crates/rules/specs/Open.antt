@@ -1,4 +1,4 @@
--- One name that opens every definition of reading, for examples that are computed: `unfolding text-open`.
+-- One name that opens every definition of reading, for examples that are computed: `unfolding text_open`.
 -- Assumes nothing.
 use Rattle.grammar.specs.Open.{grammar_open}
 use Rattle.rules.specs.State.{start}

@@ -18,7 +18,7 @@ use Rattle.values.specs.Source.{reach, Narrow}
 abbrev pub most_standing : ℕ
 most_standing = 3840
 
--- `Count.rawSize`, over the modulus m, n powers and the maps
+-- `Count.raw_size`, over the modulus m, n powers and the maps
 unfoldable pub raw_in : (m n : ℕ) → List AffineMap → List Poly → Op → ℕ
 raw_in m n maps vs (Set a) = length (operand (polynomials m n) vs a)
 raw_in m n maps vs (Xor a b) = length (operand (polynomials m n) vs a) + length (operand (polynomials m n) vs b)
