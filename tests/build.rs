@@ -1,5 +1,5 @@
 //! Links the library of the crate `outside` to the programs that compare with it. The variable
-//! BENCH_LIB names its folder, seen from here; without it the folder is ../crates/outside/out. Where
+//! BENCH_LIB names its folder, seen from here; without it the folder is ../target/staticlib. Where
 //! the library is not there the programs are built without it.
 
 use std::env;
@@ -24,5 +24,5 @@ fn main() {
 
 fn default_folder() -> PathBuf {
     let manifest = env::var_os("CARGO_MANIFEST_DIR").expect("cargo names the manifest's folder");
-    PathBuf::from(manifest).join("../crates/outside/out")
+    PathBuf::from(manifest).join("../target/staticlib")
 }

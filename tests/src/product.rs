@@ -16,7 +16,7 @@ pub fn side_of(word: &str) -> Result<Box<dyn Side>, String> {
 /// The product is not linked.
 #[cfg(not(product))]
 fn linked() -> Result<Box<dyn Side>, String> {
-    Err("built without liboutside.a: run `rt lib` in crates/outside, then build again".into())
+    Err("built without liboutside.a: run `tools/staticlib`, then build again".into())
 }
 
 /// The product is linked.

@@ -22,7 +22,12 @@ loop-i-preserved c =
     let g = c.args in (
       omega arith,
       shift-next g.x l.y l.i l.invariant.1,
-      elim c.if-y-eq1.branch [ then-y-eq1 w ↦ w.sum-is ∙ column-set g.c g.columns l.sum g.x l.y l.i l.invariant.1 l.invariant.2 w.if-y-eq1.true | else-y-eq1 w ↦ w.sum-is ∙ column_clear g.c g.columns l.sum g.x l.y l.i l.invariant.1 l.invariant.2 w.if-y-eq1.false ],
+      elim c.if-y-eq1.branch [
+        | then-y-eq1 w ↦
+            w.sum-is ∙ column-set g.c g.columns l.sum g.x l.y l.i l.invariant.1 l.invariant.2 w.if-y-eq1.true
+        | else-y-eq1 w ↦
+            w.sum-is ∙ column_clear g.c g.columns l.sum g.x l.y l.i l.invariant.1 l.invariant.2 w.if-y-eq1.false
+      ],
     )
 
 pub returns : goal.returns

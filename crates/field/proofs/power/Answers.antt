@@ -27,7 +27,8 @@ loop-n-preserved c =
     elim c.if-n-eq1.branch [
       | then-n-eq1 w ↦ (
         subst (λ (x : ℕ). x < 256) (sym (w.result-is ∙ w.times-result.ensures)) (times_lt m l.result l.x hm),
-        ap₂ (λ (r x : ℕ). times m r (power (times m) x (l.n / 2))) (w.result-is ∙ w.times-result.ensures) c.times-x.ensures
+        ap₂ (λ (r x : ℕ). times m r (power (times m) x (l.n / 2))) (w.result-is ∙ w.times-result.ensures)
+            c.times-x.ensures
             ∙ power-odd m hm l.result l.x l.n w.if-n-eq1.true ∙ l.invariant.1,
       )
       | else-n-eq1 w ↦ (

@@ -20,14 +20,22 @@ pub returns-then-t-gt-MOST_TRIALS : goal.returns-then-t-gt-MOST_TRIALS
 returns-then-t-gt-MOST_TRIALS c =
     let a = c.args in
     many_asked a.t (reading_of a.d)
-    (record { first = c.if-left-lt-WORK_BYTES.false; second = c.if-right-lt-WORK_BYTES.false; third = c.if-list-lt-LIST_BYTES.false })
+    (record {
+      first = c.if-left-lt-WORK_BYTES.false;
+      second = c.if-right-lt-WORK_BYTES.false;
+      third = c.if-list-lt-LIST_BYTES.false;
+    })
     c.if-t-gt-MOST_TRIALS.true c.refuse-then-t-gt-MOST_TRIALS.ensures
 
 pub returns-then-d-ne0 : goal.returns-then-d-ne0
 returns-then-d-ne0 c =
     let a = c.args in
     read-refused
-    (record { first = c.if-left-lt-WORK_BYTES.false; second = c.if-right-lt-WORK_BYTES.false; third = c.if-list-lt-LIST_BYTES.false })
+    (record {
+      first = c.if-left-lt-WORK_BYTES.false;
+      second = c.if-right-lt-WORK_BYTES.false;
+      third = c.if-list-lt-LIST_BYTES.false;
+    })
     c.if-t-gt-MOST_TRIALS.false a.d c.if-d-ne0.true c.refuse-then-d-ne0.ensures
 
 pub judge_routine-requires : goal.judge_routine-requires
@@ -44,5 +52,9 @@ pub returns : goal.returns
 returns c =
     let a = c.args in
     judged_routine
-    (record { first = c.if-left-lt-WORK_BYTES.false; second = c.if-right-lt-WORK_BYTES.false; third = c.if-list-lt-LIST_BYTES.false })
+    (record {
+      first = c.if-left-lt-WORK_BYTES.false;
+      second = c.if-right-lt-WORK_BYTES.false;
+      third = c.if-list-lt-LIST_BYTES.false;
+    })
     c.if-t-gt-MOST_TRIALS.false a.d c.if-d-ne0.false c.judge_routine.ensures

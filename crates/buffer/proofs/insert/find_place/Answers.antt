@@ -52,13 +52,16 @@ pub overflow_add-at-in-loop-low : goal.overflow_add-at-in-loop-low
 overflow_add-at-in-loop-low c = omega (arith, here (goal.at.overflow_add-at-in-loop-low c).In-loop-low)
 
 pub slice_bounds-compare_powers-count-in-loop-low : goal.slice_bounds-compare_powers-count-in-loop-low
-slice_bounds-compare_powers-count-in-loop-low c = omega (arith, here (goal.at.slice_bounds-compare_powers-count-in-loop-low c).In-loop-low)
+slice_bounds-compare_powers-count-in-loop-low c =
+    omega (arith, here (goal.at.slice_bounds-compare_powers-count-in-loop-low c).In-loop-low)
 
 pub slice_bounds-compare_powers-start-in-loop-low : goal.slice_bounds-compare_powers-start-in-loop-low
-slice_bounds-compare_powers-start-in-loop-low c = omega (arith, here (goal.at.slice_bounds-compare_powers-start-in-loop-low c).In-loop-low)
+slice_bounds-compare_powers-start-in-loop-low c =
+    omega (arith, here (goal.at.slice_bounds-compare_powers-start-in-loop-low c).In-loop-low)
 
 pub slice_bounds-compare_powers-end-in-loop-low : goal.slice_bounds-compare_powers-end-in-loop-low
-slice_bounds-compare_powers-end-in-loop-low c = omega (arith, here (goal.at.slice_bounds-compare_powers-end-in-loop-low c).In-loop-low)
+slice_bounds-compare_powers-end-in-loop-low c =
+    omega (arith, here (goal.at.slice_bounds-compare_powers-end-in-loop-low c).In-loop-low)
 
 pub compare_powers-requires : goal.compare_powers-requires
 compare_powers-requires c =
@@ -73,7 +76,8 @@ pub loop-low-smaller-then-compare_powers-eq2 : goal.loop-low-smaller-then-compar
 loop-low-smaller-then-compare_powers-eq2 c = omega arith
 
 pub loop-low-preserved-then-compare_powers-eq2 : goal.loop-low-preserved-then-compare_powers-eq2
-loop-low-preserved-then-compare_powers-eq2 c = (told (goal.at.loop-low-preserved-then-compare_powers-eq2 c).After-compare_powers).0 c.if-compare_powers-eq2.true
+loop-low-preserved-then-compare_powers-eq2 c =
+    (told (goal.at.loop-low-preserved-then-compare_powers-eq2 c).After-compare_powers).0 c.if-compare_powers-eq2.true
 
 pub loop-low-smaller : goal.loop-low-smaller
 loop-low-smaller c = omega arith

@@ -40,7 +40,8 @@ pub overflow_add-at-then-i-k : goal.overflow_add-at-then-i-k
 overflow_add-at-then-i-k c = omega (arith, here (goal.at.overflow_add-at-then-i-k c).Then-i-k)
 
 pub slice_bounds-compare_powers-end-then-i-k : goal.slice_bounds-compare_powers-end-then-i-k
-slice_bounds-compare_powers-end-then-i-k c = omega (arith, here (goal.at.slice_bounds-compare_powers-end-then-i-k c).Then-i-k)
+slice_bounds-compare_powers-end-then-i-k c =
+    omega (arith, here (goal.at.slice_bounds-compare_powers-end-then-i-k c).Then-i-k)
 
 pub bounds-b-at : goal.bounds-b-at
 bounds-b-at c = omega (arith, here (goal.at.bounds-b-at c).Then-i-k)
@@ -96,7 +97,8 @@ returns-then-t-eq0 c =
     ins_zero m' a.b.now a.k f.result a.t.now r.some f.ensures
     (λ l. elim y1.branch [
       | then-i-k+else-compare_powers-eq1 w ↦ there-less a.b.now a.t.now a.k f.result r.some
-          (omega (arith, r.room, suc-mul a.k (length a.t.now))) f.ensures l (λ e. w.if-compare_powers-eq1.false (w.compare_powers.ensures ∙ e))
+          (omega (arith, r.room, suc-mul a.k (length a.t.now))) f.ensures l
+          (λ e. w.if-compare_powers-eq1.false (w.compare_powers.ensures ∙ e))
       | else-i-k w ↦ absurd (omega arith)
     ]) c.if-t-eq0.true
 
@@ -137,7 +139,8 @@ returns c =
     ins_more m' a.b.now a.k f.result a.t.now u.new.b v.new.b r.some r.room f.ensures
     (λ l. elim y1.branch [
       | then-i-k+else-compare_powers-eq1 w ↦ there-less a.b.now a.t.now a.k f.result r.some
-          (omega (arith, r.room, suc-mul a.k (length a.t.now))) f.ensures l (λ e. w.if-compare_powers-eq1.false (w.compare_powers.ensures ∙ e))
+          (omega (arith, r.room, suc-mul a.k (length a.t.now))) f.ensures l
+          (λ e. w.if-compare_powers-eq1.false (w.compare_powers.ensures ∙ e))
       | else-i-k w ↦ absurd (omega arith)
     ]) (pos_of_ne _ y4.false)
     u.ensures v.ensures

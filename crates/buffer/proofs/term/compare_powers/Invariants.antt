@@ -7,7 +7,8 @@ use Rattle.poly.specs.Poly.{order}
 use Rattle.buffer.proofs.term.compare_powers.Given as goal
 
 abbrev pub invariant-loop-k : goal.invariant-loop-k
-invariant-loop-k l = (l.k ≤ length l.a) × (length l.a ≡ length l.b) × (order (drop l.k l.a) (drop l.k l.b) ≡ Ordering.eq)
+invariant-loop-k l =
+    (l.k ≤ length l.a) × (length l.a ≡ length l.b) × (order (drop l.k l.a) (drop l.k l.b) ≡ Ordering.eq)
 
 abbrev pub decreases-loop-k : goal.decreases-loop-k
 decreases-loop-k l = l.k

@@ -14,7 +14,8 @@ use Rattle.grammar.proofs.lists.read_outputs.Given as goal
 abbrev pub invariant-loop-j : goal.invariant-loop-j
 invariant-loop-j l =
     (l.j + 1 ≤ l.n) × (length l.items ≡ 8) × (l.n ≤ 9) × (length (pieces_in l.s l.l) ≡ l.n)
-    × (names_of (pieces_in l.s l.l) ≡ onto (map (name_in l.s) (take l.j l.items)) (each read_name (drop (1 + l.j) (pieces_in l.s l.l))))
+    × (names_of (pieces_in l.s l.l) ≡ onto (map (name_in l.s) (take l.j l.items))
+    (each read_name (drop (1 + l.j) (pieces_in l.s l.l))))
 
 abbrev pub decreases-loop-j : goal.decreases-loop-j
 decreases-loop-j l = l.n - l.j

@@ -94,7 +94,8 @@ pub returns-in-Let : goal.returns-in-Let
 unfolding record_in read_fields formula_of
 returns-in-Let c =
     let told = c.in-Let.is in
-    made (goal.at.returns-in-Let c).Then-fits_word told (simp (known (goal.at.returns-in-Let c).Then-fits_word told, ← c.name_field.ensures))
+    made (goal.at.returns-in-Let c).Then-fits_word told (simp
+    (known (goal.at.returns-in-Let c).Then-fits_word told, ← c.name_field.ensures))
 
 pub returns-in-Rand : goal.returns-in-Rand
 unfolding read_fields
@@ -114,7 +115,8 @@ pub returns-in-Output : goal.returns-in-Output
 unfolding record_in read_fields names_of
 returns-in-Output c =
     let told = c.in-Output.is in
-    made (goal.at.returns-in-Output c).Then-fits_word told (simp (known (goal.at.returns-in-Output c).Then-fits_word told))
+    made (goal.at.returns-in-Output c).Then-fits_word told (simp
+    (known (goal.at.returns-in-Output c).Then-fits_word told))
 
 pub returns-in-Unknown : goal.returns-in-Unknown
 unfolding record_in read_fields

@@ -6,7 +6,8 @@ use lib.Seq.{paste}
 use Rattle.judge.proofs.give_up.put_front.Given as goal
 
 abbrev pub invariant-loop-i : goal.invariant-loop-i
-invariant-loop-i l = (l.i ≤ l.v) × (length l.list ≡ length l.initial.list) × (l.list ≡ paste l.initial.list 0 l.bytes l.i)
+invariant-loop-i l =
+    (l.i ≤ l.v) × (length l.list ≡ length l.initial.list) × (l.list ≡ paste l.initial.list 0 l.bytes l.i)
 
 abbrev pub decreases-loop-i : goal.decreases-loop-i
 decreases-loop-i l = l.v - l.i

@@ -26,7 +26,8 @@ returns-then-d-difference_raw c =
     let difference-raw = c.difference_raw in
     let survey = c.survey-q in
     let S = survey.ensures.stands c.if-q.false in
-    decided-given_up (last_over_lem S difference-raw.ensures c.if-d-difference_raw.true) c.give_up-then-d-difference_raw.ensures
+    decided-given_up (last_over_lem S difference-raw.ensures c.if-d-difference_raw.true)
+    c.give_up-then-d-difference_raw.ensures
 
 pub settle-requires : goal.settle-requires
 settle-requires c =

@@ -35,10 +35,12 @@ returns-then-exceeds c = simp (
 )
 
 pub returns-then-miscounts : goal.returns-then-miscounts
-returns-then-miscounts c = sym (late (goal.at.returns-then-miscounts c).Else-exceeds ∙ ap (λ (b : Bool). cond b 10 0) c.if-miscounts.true)
+returns-then-miscounts c =
+    sym (late (goal.at.returns-then-miscounts c).Else-exceeds ∙ ap (λ (b : Bool). cond b 10 0) c.if-miscounts.true)
 
 pub returns-then-stands : goal.returns-then-stands
-returns-then-stands c = sym (late (goal.at.returns-then-stands c).Else-exceeds ∙ ap (λ (b : Bool). cond b 10 0) c.if-miscounts.false)
+returns-then-stands c =
+    sym (late (goal.at.returns-then-stands c).Else-exceeds ∙ ap (λ (b : Bool). cond b 10 0) c.if-miscounts.false)
 
 pub returns : goal.returns
 unfolding first_fault first_of

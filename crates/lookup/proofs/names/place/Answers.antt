@@ -42,16 +42,19 @@ pub returns-then-is_entry : goal.returns-then-is_entry
 unfolding place_of names_in name_in
 returns-then-is_entry c =
     let L = c.loop-i in
-    until_stop (name_in c.args.s.now nowhere) _ (names (goal.at.returns-then-is_entry c).Start) L.i (omega (arith, long (goal.at.returns-then-is_entry c).Start))
+    until_stop (name_in c.args.s.now nowhere) _ (names (goal.at.returns-then-is_entry c).Start) L.i
+    (omega (arith, long (goal.at.returns-then-is_entry c).Start))
     (told (goal.at.returns-then-is_entry c).After-is_entry ∙ c.if-is_entry.true) L.invariant.1
-    ∙ ap (λ (b : List ℕ). until (same_name (record { base = b; part = c.args.n.part })) (names (goal.at.returns-then-is_entry c).Start))
+    ∙ ap (λ (b : List ℕ). until (same_name (record { base = b; part = c.args.n.part }))
+    (names (goal.at.returns-then-is_entry c).Start))
     c.part-x.ensures
 
 pub loop-i-preserved : goal.loop-i-preserved
 loop-i-preserved c =
     let L = c.loop-i in (
       omega arith,
-      until-pass (name_in c.args.s.now nowhere) _ (names (goal.at.loop-i-preserved c).Start) L.i (omega (arith, long (goal.at.loop-i-preserved c).Start))
+      until-pass (name_in c.args.s.now nowhere) _ (names (goal.at.loop-i-preserved c).Start) L.i
+          (omega (arith, long (goal.at.loop-i-preserved c).Start))
           (told (goal.at.loop-i-preserved c).After-is_entry ∙ c.if-is_entry.false) L.invariant.1,
     )
 
@@ -59,6 +62,8 @@ pub returns : goal.returns
 unfolding place_of names_in name_in
 returns c =
     let L = c.loop-i in
-    until-done (name_in c.args.s.now nowhere) _ (names (goal.at.returns c).Start) L.i (omega (arith, long (goal.at.returns c).Start)) L.invariant.1
-    ∙ ap (λ (b : List ℕ). until (same_name (record { base = b; part = c.args.n.part })) (names (goal.at.returns c).Start))
+    until-done (name_in c.args.s.now nowhere) _ (names (goal.at.returns c).Start) L.i
+    (omega (arith, long (goal.at.returns c).Start)) L.invariant.1
+    ∙ ap (λ (b : List ℕ). until (same_name (record { base = b; part = c.args.n.part }))
+    (names (goal.at.returns c).Start))
     c.part-x.ensures

@@ -43,13 +43,16 @@ pub overflow_add-at-in-loop-j : goal.overflow_add-at-in-loop-j
 overflow_add-at-in-loop-j c = omega (arith, here (goal.at.overflow_add-at-in-loop-j c).In-loop-j)
 
 pub slice_bounds-term_product-count-in-loop-j : goal.slice_bounds-term_product-count-in-loop-j
-slice_bounds-term_product-count-in-loop-j c = omega (arith, here (goal.at.slice_bounds-term_product-count-in-loop-j c).In-loop-j)
+slice_bounds-term_product-count-in-loop-j c =
+    omega (arith, here (goal.at.slice_bounds-term_product-count-in-loop-j c).In-loop-j)
 
 pub slice_bounds-term_product-start-in-loop-j : goal.slice_bounds-term_product-start-in-loop-j
-slice_bounds-term_product-start-in-loop-j c = omega (arith, here (goal.at.slice_bounds-term_product-start-in-loop-j c).In-loop-j)
+slice_bounds-term_product-start-in-loop-j c =
+    omega (arith, here (goal.at.slice_bounds-term_product-start-in-loop-j c).In-loop-j)
 
 pub slice_bounds-term_product-end-in-loop-j : goal.slice_bounds-term_product-end-in-loop-j
-slice_bounds-term_product-end-in-loop-j c = omega (arith, here (goal.at.slice_bounds-term_product-end-in-loop-j c).In-loop-j)
+slice_bounds-term_product-end-in-loop-j c =
+    omega (arith, here (goal.at.slice_bounds-term_product-end-in-loop-j c).In-loop-j)
 
 pub term_product-requires : goal.term_product-requires
 term_product-requires c =

@@ -37,7 +37,8 @@ overflow_add-result-then-o-eq0 c = omega (arith, here (goal.at.overflow_add-resu
 
 pub returns-then-o-eq0 : goal.returns-then-o-eq0
 returns-then-o-eq0 c =
-    λ m last l h. step-piece (gf m) h l ((told (goal.at.returns-then-o-eq0 c).After-first_of-o).0 c.if-o-eq0.true) c.take_term.ensures
+    λ m last l h. step-piece (gf m) h l ((told (goal.at.returns-then-o-eq0 c).After-first_of-o).0 c.if-o-eq0.true)
+    c.take_term.ensures
 
 pub take_term-requires-then-o-eq2 : goal.take_term-requires-then-o-eq2
 take_term-requires-then-o-eq2 c =
@@ -54,7 +55,8 @@ overflow_add-result-then-o-eq2-2 c =
 pub returns-then-o-eq2 : goal.returns-then-o-eq2
 returns-then-o-eq2 c =
     λ m last l h.
-    step_sum (gf m) h l ((told (goal.at.returns-then-o-eq2 c).After-first_of-o).1 c.if-o-eq2.true) c.take_term-then-o-eq2.ensures
+    step_sum (gf m) h l ((told (goal.at.returns-then-o-eq2 c).After-first_of-o).1 c.if-o-eq2.true)
+    c.take_term-then-o-eq2.ensures
 
 pub join_terms-n-requires : goal.join_terms-n-requires
 join_terms-n-requires c =

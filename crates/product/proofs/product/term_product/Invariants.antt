@@ -8,7 +8,8 @@ use Rattle.product.proofs.product.term_product.Given as goal
 
 abbrev pub invariant-loop-j : goal.invariant-loop-j
 invariant-loop-j l =
-    (0 < l.j) × (l.j ≤ length l.p) × (length l.p ≤ length l.initial.t) × (length l.q ≡ length l.initial.t) × Begun l.p l.q l.initial.t l.t
+    (0 < l.j) × (l.j ≤ length l.p) × (length l.p ≤ length l.initial.t) × (length l.q ≡ length l.initial.t)
+    × Begun l.p l.q l.initial.t l.t
     (times l.m (get_or l.p 0 0) (get_or l.q 0 0)) l.j
 
 abbrev pub decreases-loop-j : goal.decreases-loop-j

@@ -27,17 +27,20 @@ told c =
 
 pub returns-then-nests : goal.returns-then-nests
 returns-then-nests c =
-    ap some (line-deep _ _ _ (clean (goal.at.returns-then-nests c).After-has_fields) _ (told (goal.at.returns-then-nests c).After-has_fields) _ c.record-r.ensures
+    ap some (line-deep _ _ _ (clean (goal.at.returns-then-nests c).After-has_fields) _
+    (told (goal.at.returns-then-nests c).After-has_fields) _ c.record-r.ensures
     (sym c.if-has_fields.true ∙ c.has_fields.ensures) (sym c.if-nests.true ∙ c.nests.ensures))
 
 pub returns-then-has_fields : goal.returns-then-has_fields
 returns-then-has_fields c =
-    line_record _ _ _ (clean (goal.at.returns-then-has_fields c).After-has_fields) _ (told (goal.at.returns-then-has_fields c).After-has_fields) _ c.record-r.ensures
+    line_record _ _ _ (clean (goal.at.returns-then-has_fields c).After-has_fields) _
+    (told (goal.at.returns-then-has_fields c).After-has_fields) _ c.record-r.ensures
     (sym c.if-has_fields.true ∙ c.has_fields.ensures) (sym c.if-nests.false ∙ c.nests.ensures)
 
 pub returns-then-all_allowed : goal.returns-then-all_allowed
 returns-then-all_allowed c =
-    ap some (line-unformed _ _ _ (clean (goal.at.returns-then-all_allowed c).After-has_fields) _ (told (goal.at.returns-then-all_allowed c).After-has_fields) _ c.record-r.ensures
+    ap some (line-unformed _ _ _ (clean (goal.at.returns-then-all_allowed c).After-has_fields) _
+    (told (goal.at.returns-then-all_allowed c).After-has_fields) _ c.record-r.ensures
     (sym c.if-has_fields.false ∙ c.has_fields.ensures))
 
 pub returns : goal.returns

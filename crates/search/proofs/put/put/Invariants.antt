@@ -7,7 +7,8 @@ use Rattle.search.proofs.Lent.Putting.{InPut}
 use Rattle.search.proofs.put.put.Given as goal
 
 abbrev pub invariant-loop-j : goal.invariant-loop-j
-invariant-loop-j l = (l.table ≡ list_of 256 (power (times l.m) l.a)) × InPut l.m l.initial.b l.k l.w l.i l.a l.b l.g.terms l.g.sum l.j
+invariant-loop-j l =
+    (l.table ≡ list_of 256 (power (times l.m) l.a)) × InPut l.m l.initial.b l.k l.w l.i l.a l.b l.g.terms l.g.sum l.j
 
 abbrev pub decreases-loop-j : goal.decreases-loop-j
 decreases-loop-j l = l.k - l.j

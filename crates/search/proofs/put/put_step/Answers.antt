@@ -67,7 +67,8 @@ returns-then-same_group c =
     let h = c.requires in
     λ x t.
     step_on a.m a.b.now a.k a.w a.i x a.j a.g.terms a.g.sum h
-    (a.g.sum ⊕ c.times.result) (sum-now (goal.at.returns-then-same_group c).After-times x t) (sym c.if-same_group.true ∙ c.same_group.ensures)
+    (a.g.sum ⊕ c.times.result) (sum-now (goal.at.returns-then-same_group c).After-times x t)
+    (sym c.if-same_group.true ∙ c.same_group.ensures)
 
 pub returns-then-sum-eq0 : goal.returns-then-sum-eq0
 unfolding X.◌⊕◌
@@ -76,7 +77,8 @@ returns-then-sum-eq0 c =
     let h = c.requires in
     λ x t.
     step-none a.m a.b.now a.k a.w a.i x a.j a.g.terms a.g.sum h
-    (a.g.sum ⊕ c.times.result) (sum-now (goal.at.returns-then-sum-eq0 c).After-times x t) (sym c.if-same_group.false ∙ c.same_group.ensures)
+    (a.g.sum ⊕ c.times.result) (sum-now (goal.at.returns-then-sum-eq0 c).After-times x t)
+    (sym c.if-same_group.false ∙ c.same_group.ensures)
     c.if-sum-eq0.true
 
 pub overflow_mul-g : goal.overflow_mul-g

@@ -33,7 +33,8 @@ find-found-requires c =
 
 pub raw_size-raw-requires : goal.raw_size-raw-requires
 raw_size-raw-requires c =
-    raw-asked (long (goal.at.raw_size-raw-requires c).Start) c.requires c.loop-i.invariant.0 (omega arith) c.find-found.ensures
+    raw-asked (long (goal.at.raw_size-raw-requires c).Start) c.requires c.loop-i.invariant.0 (omega arith)
+    c.find-found.ensures
 
 pub overflow_sub-most : goal.overflow_sub-most
 overflow_sub-most c = omega (arith, c.loop-i.invariant.0.top)
@@ -53,13 +54,15 @@ returns-then-most-shelf c =
     let loop = c.loop-i in
     subst (Walked a.m (maps_of a.r) a.r.statements a.from a.to a.s a.d a.left.now a.w
     a.most loop.left) (sym c.ended.ensures)
-    (walk-over (long (goal.at.returns-then-most-shelf c).Start) c.requires loop.invariant.0 (omega arith) c.find-found.ensures
+    (walk-over (long (goal.at.returns-then-most-shelf c).Start) c.requires loop.invariant.0 (omega arith)
+    c.find-found.ensures
     c.raw_size-raw.ensures c.if-most-shelf.true)
 
 pub form_value-k-requires : goal.form_value-k-requires
 form_value-k-requires c =
     let loop = c.loop-i in
-    form-asked (long (goal.at.form_value-k-requires c).Start) c.requires loop.invariant.0 (omega arith) c.find-found.ensures
+    form-asked (long (goal.at.form_value-k-requires c).Start) c.requires loop.invariant.0 (omega arith)
+    c.find-found.ensures
     c.raw_size-raw.ensures c.if-most-shelf.false loop.right loop.invariant.1
 
 pub overflow_cast-shelf : goal.overflow_cast-shelf
@@ -91,7 +94,8 @@ unfolding shelved
 loop-i-preserved c =
     let loop = c.loop-i in
     let form-value = c.form_value-k in (
-      holds_more (long (goal.at.loop-i-preserved c).Start) c.requires loop.invariant.0 (omega arith) c.find-found.ensures c.raw_size-raw.ensures
+      holds_more (long (goal.at.loop-i-preserved c).Start) c.requires loop.invariant.0 (omega arith)
+          c.find-found.ensures c.raw_size-raw.ensures
           c.if-most-shelf.false form-value.ensures,
       form-value.auto.right ∙ loop.invariant.1,
     )
@@ -111,4 +115,5 @@ returns c =
     let loop = c.loop-i in
     subst (Walked a.m (maps_of a.r) a.r.statements a.from a.to a.s a.d a.left.now a.w
     a.most loop.left) (sym c.ended-2.ensures)
-    (walk-done (long (goal.at.returns c).Start) c.requires loop.i loop.left loop.shelf loop.invariant.0 (λ h. absurd (omega arith)))
+    (walk-done (long (goal.at.returns c).Start) c.requires loop.i loop.left loop.shelf loop.invariant.0
+    (λ h. absurd (omega arith)))

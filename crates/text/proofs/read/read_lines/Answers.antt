@@ -96,7 +96,8 @@ returns-then-step-ne0 c =
     let a = seen (goal.at.returns-then-step-ne0 c).After-look c.in-Line.is in
     let told = T.ensures.0.outcome (arrays L.maps L.statements) L.invariant.4 in
     subst (ReadingIs c.refuse.result)
-    (line_refused (text_of (goal.at.returns-then-step-ne0 c).At-loop-l) (held (goal.at.returns-then-step-ne0 c).At-loop-l) L.c L.invariant.6 _ _ a T.result told c.if-step-ne0.true)
+    (line_refused (text_of (goal.at.returns-then-step-ne0 c).At-loop-l)
+    (held (goal.at.returns-then-step-ne0 c).At-loop-l) L.c L.invariant.6 _ _ a T.result told c.if-step-ne0.true)
     c.refuse.ensures
 
 pub overflow_add-at : goal.overflow_add-at
@@ -110,13 +111,15 @@ loop-i-init c =
     (L.k.origin + L.k.masked) c.count_given-count.result L.invariant.4.statements
 
 pub statement_given-st-requires : goal.statement_given-st-requires
-statement_given-st-requires c = omega (arith, c.loop-i-test.true, room (goal.at.statement_given-st-requires c).At-loop-i)
+statement_given-st-requires c =
+    omega (arith, c.loop-i-test.true, room (goal.at.statement_given-st-requires c).At-loop-i)
 
 pub overflow_add-statements : goal.overflow_add-statements
 overflow_add-statements c = omega (arith, c.loop-i-test.true, room (goal.at.overflow_add-statements c).At-loop-i)
 
 pub offset_bounds-statements-at : goal.offset_bounds-statements-at
-offset_bounds-statements-at c = omega (arith, c.loop-i-test.true, room (goal.at.offset_bounds-statements-at c).At-loop-i)
+offset_bounds-statements-at c =
+    omega (arith, c.loop-i-test.true, room (goal.at.offset_bounds-statements-at c).At-loop-i)
 
 pub bounds-statements-at : goal.bounds-statements-at
 bounds-statements-at c = omega (arith, c.loop-i-test.true, room (goal.at.bounds-statements-at c).At-loop-i)
@@ -173,7 +176,8 @@ unended-requires c =
 pub returns-in-Unended : goal.returns-in-Unended
 returns-in-Unended c =
     let a = seen (goal.at.returns-in-Unended c).After-look c.in-Unended.is in
-    subst (ReadingIs c.unended.result) (text-unended (text_of (goal.at.returns-in-Unended c).At-loop-l) (held (goal.at.returns-in-Unended c).At-loop-l) c.loop-l.c c.loop-l.invariant.6 _ a)
+    subst (ReadingIs c.unended.result) (text-unended (text_of (goal.at.returns-in-Unended c).At-loop-l)
+    (held (goal.at.returns-in-Unended c).At-loop-l) c.loop-l.c c.loop-l.invariant.6 _ a)
     c.unended.ensures
 
 pub end-requires : goal.end-requires
@@ -185,5 +189,6 @@ pub returns-in-End : goal.returns-in-End
 returns-in-End c =
     let L = c.loop-l in
     let a = seen (goal.at.returns-in-End c).After-look c.in-End.is in
-    subst (ReadingIs c.end.result) (text-ended (text_of (goal.at.returns-in-End c).At-loop-l) (held (goal.at.returns-in-End c).At-loop-l) L.c L.invariant.6 L.invariant.0 a)
+    subst (ReadingIs c.end.result) (text-ended (text_of (goal.at.returns-in-End c).At-loop-l)
+    (held (goal.at.returns-in-End c).At-loop-l) L.c L.invariant.6 L.invariant.0 a)
     (c.end.ensures (text_of (goal.at.returns-in-End c).At-loop-l) L.table)

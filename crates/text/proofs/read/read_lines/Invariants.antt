@@ -20,7 +20,8 @@ decreases-loop-i l = l.count - l.i
 abbrev pub invariant-loop-l : goal.invariant-loop-l
 invariant-loop-l l =
     let h = kept l.table l.k (arrays l.maps l.statements) in
-    (l.c.at ≤ length l.s) × (l.c.line ≤ l.c.at) × (length l.s ≤ 16384) × Sound l.k × Sized h × (length l.codes ≡ most_codes)
+    (l.c.at ≤ length l.s) × (l.c.line ≤ l.c.at) × (length l.s ≤ 16384) × Sound l.k × Sized h
+    × (length l.codes ≡ most_codes)
     × (take_lines start l.initial.c.line (pieces line_feed (drop l.initial.c.at l.s))
     ≡ take_lines (state_in l.s h) l.c.line (pieces line_feed (drop l.c.at l.s)))
 

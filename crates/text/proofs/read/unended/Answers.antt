@@ -23,7 +23,8 @@ pub refuse-requires : goal.refuse-requires
 refuse-requires c = λ z. absurd (omega (arith, z))
 
 pub returns-then-all_allowed : goal.returns-then-all_allowed
-returns-then-all_allowed c = answered (goal.at.returns-then-all_allowed c).After-all_allowed true c.if-all_allowed.true c.refuse.ensures
+returns-then-all_allowed c =
+    answered (goal.at.returns-then-all_allowed c).After-all_allowed true c.if-all_allowed.true c.refuse.ensures
 
 pub refuse-requires-2 : goal.refuse-requires-2
 refuse-requires-2 c = λ z. absurd (omega (arith, z))

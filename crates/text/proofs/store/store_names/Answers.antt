@@ -44,11 +44,13 @@ returns-in-Input c =
     let k = c.args.k in
     let first = c.put-in-Input.ensures in
     c.put_shares.ensures
-    ∙ ap (λ (t : List ℕ). put_shares t (masked_from + k.parts) c.in-Input.x k.shares) first ∙ told (goal.at.returns-in-Input c).Start c.in-Input.is
+    ∙ ap (λ (t : List ℕ). put_shares t (masked_from + k.parts) c.in-Input.x k.shares) first
+    ∙ told (goal.at.returns-in-Input c).Start c.in-Input.is
 
 pub returns-in-Stated : goal.returns-in-Stated
 returns-in-Stated c =
-    c.put_values.ensures ∙ let_one c.args.t.now (name_slot c.args.k) c.in-Stated.x ∙ told (goal.at.returns-in-Stated c).Start c.in-Stated.is
+    c.put_values.ensures ∙ let_one c.args.t.now (name_slot c.args.k) c.in-Stated.x
+    ∙ told (goal.at.returns-in-Stated c).Start c.in-Stated.is
 
 pub returns-in-Let : goal.returns-in-Let
 returns-in-Let c =

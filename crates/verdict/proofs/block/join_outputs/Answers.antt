@@ -15,7 +15,8 @@ pub loop-i-init : goal.loop-i-init
 unfolding bytes outputs_of
 loop-i-init c =
     let outs = map (value_at (bytes c.args.m) c.args.vs.now) (outputs_of c.args.r) in
-    let size : length outs ≡ c.args.r.named = outputs-length _ _ _ (omega (arith, sized (goal.at.loop-i-init c).Start)) in
+    let size : length outs ≡ c.args.r.named = outputs-length _ _ _
+    (omega (arith, sized (goal.at.loop-i-init c).Start)) in
     (omega arith, joined-none (bytes c.args.m) outs c.args.r.named size)
 
 pub loop-i-preserved : goal.loop-i-preserved
@@ -24,10 +25,12 @@ loop-i-preserved c =
     let l = c.loop-i in
     let f = value_at (bytes c.args.m) c.args.vs.now in
     let outs = map f (outputs_of c.args.r) in
-    let size : length outs ≡ c.args.r.named = outputs-length _ _ _ (omega (arith, sized (goal.at.loop-i-preserved c).Start)) in
+    let size : length outs ≡ c.args.r.named = outputs-length _ _ _
+    (omega (arith, sized (goal.at.loop-i-preserved c).Start)) in
     let value : c.value_at-sum.result ≡ get_or outs (l.i - 1) (f 0) =
     c.value_at-sum.ensures
-    ∙ output-at f c.args.r.outputs c.args.r.named (l.i - 1) (omega arith) (omega (arith, sized (goal.at.loop-i-preserved c).Start)) in
+    ∙ output-at f c.args.r.outputs c.args.r.named (l.i - 1) (omega arith)
+    (omega (arith, sized (goal.at.loop-i-preserved c).Start)) in
     let next = joined-more (bytes c.args.m) outs l.i (f 0) l.sum (omega arith) (omega arith) l.invariant.1 in
     (omega arith, rw value next)
 

@@ -6,7 +6,8 @@ use Rattle.verdict.proofs.trials.draw.Given as goal
 
 abbrev pub invariant-loop-i : goal.invariant-loop-i
 invariant-loop-i l =
-    (l.i ≤ l.v) × (length l.bytes ≡ most_variables) × (trial_bytes l.v l.number ≡ take l.i l.bytes ++ trial_bytes (l.v - l.i) l.n)
+    (l.i ≤ l.v) × (length l.bytes ≡ most_variables) × (trial_bytes l.v l.number ≡ take l.i l.bytes ++ trial_bytes
+    (l.v - l.i) l.n)
     × (number_after l.v l.number ≡ number_after (l.v - l.i) l.n)
 
 abbrev pub decreases-loop-i : goal.decreases-loop-i
