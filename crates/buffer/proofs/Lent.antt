@@ -2,7 +2,6 @@ pub mod Strides
 pub mod Reads
 pub mod Compare
 pub mod Place
-pub mod Moves
 pub mod Places
 pub mod Inserting
 pub mod Outcomes

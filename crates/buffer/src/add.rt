@@ -10,13 +10,9 @@ pub fn add_terms(b: &mut [u8], r: usize, src: &[u8], k: usize, w: usize) -> usiz
     ensures { AddedAny b.old b.new r src.now w k result }
 {
     let mut n = r;
-    let mut j = k;
-    let mut at = k * w;
-    // the terms of src from j on are inserted
-    while 0 < j {
-        j -= 1;
-        at -= w;
-        n = insert_term(b, n, &src[at..at + w]);
+    // the terms of src behind term j are inserted
+    for j in (0..k).rev() {
+        n = insert_term(b, n, &src[j * w..(j + 1) * w]);
     }
     n
 }

@@ -1,4 +1,5 @@
 // A term inserted among sorted terms: the one primitive of sum, product and application.
+// A buffer and the number of its terms stay two parameters: it is lent again with other counts.
 ghost use Rattle.buffer.specs.Insert.{PlaceAsked, Placed, InsertAsked, InsertedAny};
 
 use crate::term::{compare_powers, move_down, move_up, write_at};
@@ -13,16 +14,14 @@ pub fn insert_term(b: &mut [u8], k: usize, t: &[u8]) -> usize
     let i = find_place(b, k, t);
     let at = i * w;
     let end = k * w;
-    if i < k {
-        if compare_powers(&t[1..], &b[at + 1..at + w]) == 1 {
-            let c = t[0] ^ b[at];
-            if c == 0 {
-                move_down(b, at + w, end, w);
-                return k - 1;
-            }
-            b[at] = c;
-            return k;
+    if i < k && compare_powers(&t[1..], &b[at + 1..at + w]).is_eq() {
+        let c = t[0] ^ b[at];
+        if c == 0 {
+            move_down(b, at + w, end, w);
+            return k - 1;
         }
+        b[at] = c;
+        return k;
     }
     if t[0] == 0 {
         return k;
@@ -40,11 +39,12 @@ fn find_place(b: &[u8], k: usize, t: &[u8]) -> usize
     let w = t.len();
     let mut low = 0;
     let mut high = k;
-    // the terms below low come before t, the term at high does not
+    // The terms below low come before t, the term at high does not.
+    // `partition_point` of std halves over elements, and a term is w of them.
     while low < high {
         let middle = low + (high - low) / 2;
         let at = middle * w;
-        if compare_powers(&t[1..], &b[at + 1..at + w]) == 2 {
+        if compare_powers(&t[1..], &b[at + 1..at + w]).is_gt() {
             low = middle + 1;
         } else {
             high = middle;

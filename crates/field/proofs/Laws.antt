@@ -7,6 +7,7 @@ pub mod Algebra
 pub mod Powers
 pub mod Modulus
 pub mod Sums
+pub mod Made
 pub mod Maps
 pub mod Duals
 pub mod Pairing

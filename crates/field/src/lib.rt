@@ -5,6 +5,8 @@ ghost use Rattle.std.specs.Prelude.{◌≡◌, ◌<◌, get_or};
 ghost use Rattle.field.specs.Field.{double, times, power, squared};
 ghost use Rattle.field.specs.Maps.{list_of, affine, dual_of, coefficient, coefficients_of};
 
+use std::array;
+
 // a times 2: the bits move up by one, and bit 7 comes back as m.
 pub fn doubled(m: u8, a: u8) -> u8
     ensures { result ≡ double m a }
@@ -17,17 +19,16 @@ pub fn doubled(m: u8, a: u8) -> u8
 pub fn times(m: u8, a: u8, b: u8) -> u8
     ensures { result ≡ times m a b }
 {
-    let mut sum: u8 = 0;
+    let mut sum = 0;
     let mut x = a;
     let mut y = b;
-    let mut n: usize = 8;
-    while 0 < n {
+    // what is added, and what the bits left in y still add, make the product
+    for _i in 0..8u8 {
         if y % 2 == 1 {
-            sum = sum ^ x;
+            sum ^= x;
         }
         x = doubled(m, x);
-        y = y / 2;
-        n -= 1;
+        y /= 2;
     }
     sum
 }
@@ -36,15 +37,16 @@ pub fn times(m: u8, a: u8, b: u8) -> u8
 pub fn power(m: u8, a: u8, e: u8) -> u8
     ensures { result ≡ power (times m) a e }
 {
-    let mut result: u8 = 1;
+    let mut result = 1;
     let mut x = a;
     let mut n = e;
+    // the result, times x to the power n, is the answer; n is halved, not counted
     while 0 < n {
         if n % 2 == 1 {
             result = times(m, result, x);
         }
         x = times(m, x, x);
-        n = n / 2;
+        n /= 2;
     }
     result
 }
@@ -53,13 +55,12 @@ pub fn power(m: u8, a: u8, e: u8) -> u8
 pub fn power_table(m: u8, a: u8) -> [u8; 256]
     ensures { result ≡ list_of 256 (power (times m) a) }
 {
-    let mut out: [u8; 256] = [0; 256];
-    let mut x: u8 = 1;
-    let mut j: usize = 0;
-    while j < 256 {
-        out[j] = x;
+    let mut out = [0; 256];
+    let mut x = 1;
+    // x is the power of its place, and the places passed hold theirs
+    for p in out.iter_mut() {
+        *p = x;
         x = times(m, a, x);
-        j += 1;
     }
     out
 }
@@ -70,19 +71,20 @@ pub fn apply(c: u8, columns: [u8; 8], x: u8) -> u8
 {
     let mut sum = c;
     let mut y = x;
-    let mut i: usize = 0;
-    while i < 8 {
+    // y is x without the bits of the columns passed
+    for column in columns {
         if y % 2 == 1 {
-            sum = columns[i] ^ sum;
+            sum ^= column;
         }
-        y = y / 2;
-        i += 1;
+        y /= 2;
     }
     sum
 }
 
+// The dual bytes of 1, 2, 4, .. 128 for the modulus 1b.
 const DUAL_1B: [u8; 8] = [41, 176, 88, 5, 166, 83, 164, 82];
 
+// The same for the modulus 1d.
 const DUAL_1D: [u8; 8] = [173, 216, 193, 67, 2, 1, 142, 71];
 
 // The dual byte of 2 to the power i.
@@ -95,7 +97,7 @@ fn dual(m: u8, i: usize) -> u8
 
 // The dual bytes for the modulus 1b, squared 0, 1, .. 7 times: eight bytes for each.
 const SQUARED_1B: [[u8; 8]; 8] = [
-    [41, 176, 88, 5, 166, 83, 164, 82],
+    DUAL_1B,
     [45, 237, 240, 17, 226, 181, 230, 180],
     [61, 12, 70, 26, 89, 252, 73, 253],
     [38, 80, 191, 95, 241, 22, 234, 23],
@@ -110,10 +112,8 @@ fn dual_squared(m: u8, i: usize, j: usize) -> u8
     requires { i < 8 }
     ensures { result ≡ squared (times m) j (get_or (dual_of m) i 0) }
 {
-    if m == 27 {
-        if j < 8 {
-            return SQUARED_1B[j][i];
-        }
+    if m == 27 && j < 8 {
+        return SQUARED_1B[j][i];
     }
     squares(m, dual(m, i), j)
 }
@@ -123,10 +123,8 @@ pub fn squares(m: u8, a: u8, j: usize) -> u8
     ensures { result ≡ squared (times m) j a }
 {
     let mut x = a;
-    let mut left = j;
-    while 0 < left {
+    for _i in 0..j {
         x = times(m, x, x);
-        left -= 1;
     }
     x
 }
@@ -135,11 +133,9 @@ pub fn squares(m: u8, a: u8, j: usize) -> u8
 pub fn coefficient(m: u8, columns: [u8; 8], j: usize) -> u8
     ensures { result ≡ coefficient (times m) (dual_of m) columns j }
 {
-    let mut sum: u8 = 0;
-    let mut i: usize = 0;
-    while i < 8 {
-        sum = times(m, columns[i], dual_squared(m, i, j)) ^ sum;
-        i += 1;
+    let mut sum = 0;
+    for (i, column) in columns.iter().enumerate() {
+        sum ^= times(m, *column, dual_squared(m, i, j));
     }
     sum
 }
@@ -148,11 +144,5 @@ pub fn coefficient(m: u8, columns: [u8; 8], j: usize) -> u8
 pub fn coefficients(m: u8, columns: [u8; 8]) -> [u8; 8]
     ensures { result ≡ coefficients_of m columns }
 {
-    let mut out: [u8; 8] = [0; 8];
-    let mut j: usize = 0;
-    while j < 8 {
-        out[j] = coefficient(m, columns, j);
-        j += 1;
-    }
-    out
+    array::from_fn(|j| coefficient(m, columns, j))
 }

@@ -1,7 +1,7 @@
 -- The grammar of one line whose word is known: the number of its fields, and the form of each (refusal 5, from the
 -- line alone). Assumes nothing.
 use Rattle.std.specs.Prelude.{ℕ, ◌+◌, Bool, false, cond, List, [], ◌∷◌, ltb, eqb, length, get_or, drop}
-use Rattle.std.proofs.Math.Option.{Option, none, some}
+use Rattle.std.specs.Prelude.{Option, None as none, Some as some}
 use Rattle.tokens.specs.declared.word.Word.{Word}
 use Rattle.tokens.specs.declared.word.Word.TheVariants.{Shares, Map, Input, Origin, Set, Xor, Mul, App, Let}
 use Rattle.tokens.specs.declared.word.Word.TheVariants.{Rand, Result, Masked, Output, Unknown}

@@ -4,23 +4,22 @@ ghost use Rattle.std.specs.Prelude.{◌≡◌, ◌+◌, ◌-◌, ◌≤◌, leng
 ghost use Rattle.tokens.specs.Ascii.{is_mark};
 ghost use Rattle.tokens.specs.Split.{until};
 ghost use Rattle.tokens.specs.Token.{is_some, read_term, read_plain};
-ghost use Rattle.grammar.specs.Line.{Inside, pieces_in};
+ghost use Rattle.grammar.specs.TextLine.{pieces_of};
 ghost use Rattle.grammar.specs.Formula.{operation_of, operation_at, front, read_formula};
-ghost use Rattle.grammar.specs.Formula as formula;
 ghost use Rattle.grammar.specs.Recorded.{formula_of};
-ghost use Rattle.grammar.specs.Measured.{leaf, stands_at, passed_over, joined_of};
+ghost use Rattle.grammar.specs.Measured.{alone, leaf, stands_at, passed_over, joined_of};
 ghost use Rattle.grammar.specs.Measured.{FormulaIs, Joins, MeasureIs};
 
-use crate::line::Line;
+use crate::line::TextLine;
+use crate::record;
 use crate::record::Binary;
-use crate::{line, record};
 use tokens::limits::NO_PART;
-use tokens::token::{NameForm, TermForm};
 use tokens::word::Word;
 use tokens::{bytes, split, token};
 
 // What stands before the first mark: an operation with its (, another word with one, or an operand.
-#[derive(Clone, Copy)]
+// The definition `operation_at` tells the four apart, and the laws of reading go by its cases.
+#[derive(Clone, Copy, PartialEq, Eq, Debug)]
 pub enum Operation {
     Two(Binary),
     Image,
@@ -28,62 +27,48 @@ pub enum Operation {
     Operand,
 }
 
-// Whether a part of a formula has its form, where it ends, how deep it nests, and how many
-// operations it has.
-#[derive(Clone, Copy)]
+// Where a part of a formula ends, how deep it nests, and how many operations it has.
+#[derive(Clone, Copy, PartialEq, Eq, Debug)]
 pub struct FormulaRead {
-    pub ok: bool,
     pub end: usize,
     pub depth: usize,
     pub operations: usize,
 }
 
 // The formula of a line.
-pub fn line_formula(s: &[u8], l: Line) -> FormulaRead
-    requires { Inside s.now l }
-    ensures { MeasureIs result (formula_of (pieces_in s.now l)) }
+pub fn line_formula(l: TextLine) -> Option<FormulaRead>
+    ensures { MeasureIs result (formula_of (pieces_of l.entry)) }
 {
-    if record::fits_word(s, l, Word::Let) {
-        let f = line::field(s, l, 2);
-        return read_formula(split::part(s, f.at, f.len));
+    if !record::fits_word(l.text, l.line, Word::Let) {
+        return None;
     }
-    part_read(false, 0)
+    read_formula(l.piece(2))
 }
 
 // The formula of a field.
-pub fn read_formula(f: &[u8]) -> FormulaRead
+pub fn read_formula(f: &[u8]) -> Option<FormulaRead>
     ensures { MeasureIs result (read_formula f.now) }
 {
-    let r = formula(f, 0);
-    if r.end == f.len() {
-        return r;
-    }
-    part_read(false, 0)
+    let r = formula(f, 0)?;
+    (r.end == f.len()).then_some(r)
 }
 
 // The formula at place `at`, read with all that it nests.
-pub fn formula(f: &[u8], at: usize) -> FormulaRead
+pub fn formula(f: &[u8], at: usize) -> Option<FormulaRead>
     requires { at ≤ length f.now }
     ensures { FormulaIs f.now at result }
 {
     let mark = bytes::find_mark(f, at);
     let first = match operation_at(f, at, mark) {
-        Operation::Two(b) => formula(f, mark + 1),
-        Operation::Image => map_name(f, mark + 1),
-        Operation::Unknown => {
-            return part_read(false, at);
-        }
-        Operation::Operand => {
-            return operand(f, at, mark);
-        }
+        Operation::Two(_) => formula(f, mark + 1)?,
+        Operation::Image => map_name(f, mark + 1)?,
+        Operation::Unknown => return None,
+        Operation::Operand => return operand(f, at, mark),
     };
-    let left = passed(f, first, b',');
-    if left.ok {
-        let end = left.end;
-        let right = formula(f, end);
-        return joined(left, passed(f, right, b')'));
-    }
-    part_read(false, at)
+    let left = passed(f, first, b',')?;
+    let second = formula(f, left.end)?;
+    let right = passed(f, second, b')')?;
+    Some(joined(left, right))
 }
 
 // The operation at place `at`, whose first mark is known.
@@ -98,6 +83,7 @@ pub fn operation_at(f: &[u8], at: usize, mark: usize) -> Operation
 }
 
 // The operation that a word before ( is.
+#[tactic(auto, unfolding(crate::specs::Formula::operation_of, tokens::specs::Ascii::ascii))]
 pub fn operation_of(w: &[u8]) -> Operation
     ensures { result ≡ operation_of w.now }
 {
@@ -114,49 +100,36 @@ pub fn operation_of(w: &[u8]) -> Operation
 }
 
 // An operand from place `at` to the mark.
-pub fn operand(f: &[u8], at: usize, mark: usize) -> FormulaRead
+pub fn operand(f: &[u8], at: usize, mark: usize) -> Option<FormulaRead>
     requires { at ≤ mark }
-    ensures { result ≡ leaf (is_some (read_term (take (mark - at) (drop at f.now))))
-        mark }
+    ensures { result ≡ leaf (is_some (read_term (take (mark - at) (drop at f.now)))) mark }
 {
-    match token::term(split::part(f, at, mark - at)) {
-        TermForm::Name(n, p) => part_read(true, mark),
-        TermForm::Byte(v) => part_read(true, mark),
-        TermForm::Bad => part_read(false, mark),
-    }
+    let _ = token::term(split::part(f, at, mark - at))?;
+    Some(part_read(mark))
 }
 
 // The name of a map at place `at`, up to the first mark.
-pub fn map_name(f: &[u8], at: usize) -> FormulaRead
+pub fn map_name(f: &[u8], at: usize) -> Option<FormulaRead>
     requires { at ≤ length f.now }
     ensures { result ≡ leaf (is_some (read_plain (front (drop at f.now))))
         (at + until is_mark (drop at f.now)) }
 {
     let mark = bytes::find_mark(f, at);
-    match token::name(split::part(f, at, mark - at)) {
-        NameForm::Name(n, p) => part_read(p == NO_PART, mark),
-        NameForm::Bad => part_read(false, mark),
-    }
+    let n = token::name(split::part(f, at, mark - at))?;
+    (n.part == NO_PART).then_some(part_read(mark))
 }
 
 // What was read, and behind it the byte m.
-pub fn passed(f: &[u8], r: FormulaRead, m: u8) -> FormulaRead
+#[tactic(auto, unfolding(crate::specs::Measured::passed_over))]
+pub fn passed(f: &[u8], r: FormulaRead, m: u8) -> Option<FormulaRead>
     requires { r.end ≤ length f.now }
     ensures { result ≡ passed_over f.now r m }
 {
-    let at = r.end;
-    if r.ok {
-        if stands(f, at, m) {
-            return FormulaRead {
-                ok: true,
-                end: at + 1,
-                depth: r.depth,
-                operations: r.operations,
-            };
-        }
-        return part_read(false, at);
-    }
-    part_read(false, at)
+    stands(f, r.end, m).then_some(FormulaRead {
+        end: r.end + 1,
+        depth: r.depth,
+        operations: r.operations,
+    })
 }
 
 // An operation on two parts, that ends where b does.
@@ -164,41 +137,26 @@ pub fn joined(a: FormulaRead, b: FormulaRead) -> FormulaRead
     requires { Joins a b }
     ensures { result ≡ joined_of a b }
 {
-    let depth = greater(a.depth, b.depth);
     FormulaRead {
-        ok: b.ok,
         end: b.end,
-        depth: depth + 1,
+        depth: a.depth.max(b.depth) + 1,
         operations: a.operations + b.operations + 1,
     }
 }
 
-// The greater of two numbers.
-pub fn greater(a: usize, b: usize) -> usize
-    ensures { result ≡ formula.greater a b }
-{
-    if a < b {
-        return b;
-    }
-    a
-}
-
 // The byte m stands at a place.
+#[tactic(auto, unfolding(crate::specs::Measured::stands_at))]
 pub fn stands(f: &[u8], at: usize, m: u8) -> bool
     ensures { result ≡ stands_at f.now at m }
 {
-    if at < f.len() {
-        return f[at] == m;
-    }
-    false
+    at < f.len() && f[at] == m
 }
 
 // A part of a formula without operations, that ends at a place.
-pub fn part_read(ok: bool, end: usize) -> FormulaRead
-    ensures { result ≡ leaf ok end }
+pub fn part_read(end: usize) -> FormulaRead
+    ensures { result ≡ alone end }
 {
     FormulaRead {
-        ok,
         end,
         depth: 0,
         operations: 0,

@@ -1,97 +1,45 @@
 // The lists of a line: the columns of a map, and the names of an output.
-ghost use Rattle.std.specs.Prelude.{◌≡◌, ◌≤◌, length};
-ghost use Rattle.tokens.specs.Limits.{most_shares};
-ghost use Rattle.grammar.specs.Line.{Inside, pieces_in};
-ghost use Rattle.grammar.specs.Recorded.{columns_in, columns_of, OutputsAre, NoOutputs};
+ghost use Rattle.std.specs.Prelude.{◌≡◌};
+ghost use Rattle.grammar.specs.TextLine.{pieces_of};
+ghost use Rattle.grammar.specs.Recorded.{columns_of, names_of, outputs_in};
 
-use crate::line::{Line, NameRead, NameRef};
-use crate::{line, record};
+use crate::line::{NameRef, TextLine};
+use crate::outputs::Outputs;
+use crate::record;
 use tokens::limits::{COLUMNS, MOST_SHARES};
-use tokens::token::Number;
 use tokens::word::Word;
 
-// The eight columns of a map, where each is two hex digits.
-#[derive(Clone, Copy)]
-pub struct Columns {
-    pub ok: bool,
-    pub bytes: [u8; COLUMNS],
-}
-
-// Reads the columns of a map line.
-pub fn read_columns(s: &[u8], l: Line) -> Columns
-    requires { Inside s.now l }
-    ensures { columns_in result ≡ columns_of (pieces_in s.now l) }
+// Reads the columns of a map line, where each is two hex digits.
+pub fn read_columns(l: TextLine) -> Option<[u8; COLUMNS]>
+    ensures { result ≡ columns_of (pieces_of l.entry) }
 {
-    let mut bytes = [0u8; COLUMNS];
-    if !record::fits_word(s, l, Word::Map) {
-        return Columns { ok: false, bytes };
+    if !record::fits_word(l.text, l.line, Word::Map) {
+        return None;
     }
-    let mut j = 0;
-    while j < COLUMNS {
-        match line::hex_field(s, l, 3 + j) {
-            Number::Value(v) => {
-                bytes[j] = v;
-            }
-            Number::Bad => {
-                return Columns { ok: false, bytes };
-            }
-        }
-        j += 1;
+    let mut bytes = [0; COLUMNS];
+    for j in 0..COLUMNS {
+        bytes[j] = l.hex_field(3 + j)?;
     }
-    Columns { ok: true, bytes }
+    Some(bytes)
 }
 
-// The names of an output line, where each is one.
-#[derive(Clone, Copy)]
-pub struct Outputs {
-    pub ok: bool,
-    pub items: [NameRef; MOST_SHARES],
-    pub count: usize,
-}
-
-// No names.
-pub fn no_outputs() -> Outputs
-    ensures { NoOutputs result }
+// Reads the names of an output line, where each is one.
+pub fn read_outputs(l: TextLine) -> Option<Outputs>
+    ensures { outputs_in l.entry.text.now result ≡ names_of (pieces_of l.entry) }
 {
+    let n = record::piece_count(l.text, l.line);
+    if !record::may_have(Word::Output, n) {
+        return None;
+    }
     let nowhere = NameRef {
         at: 0,
         len: 0,
         part: 0,
     };
-    let items = [nowhere; MOST_SHARES];
-    Outputs {
-        ok: false,
-        items,
-        count: 0,
+    let mut items = [nowhere; MOST_SHARES];
+    let count = n - 1;
+    for j in 0..count {
+        items[j] = l.name_field(1 + j)?;
     }
-}
-
-// Reads the names of an output line.
-pub fn read_outputs(s: &[u8], l: Line) -> Outputs
-    requires { Inside s.now l }
-    ensures { OutputsAre s.now l result }
-{
-    let none = no_outputs();
-    let mut items = none.items;
-    let n = record::piece_count(s, l);
-    if !record::may_have(Word::Output, n) {
-        return none;
-    }
-    let mut j = 0;
-    while 1 + j < n {
-        match line::name_field(s, l, 1 + j) {
-            NameRead::Name(x) => {
-                items[j] = x;
-            }
-            NameRead::Bad => {
-                return none;
-            }
-        }
-        j += 1;
-    }
-    Outputs {
-        ok: true,
-        items,
-        count: j,
-    }
+    Some(Outputs { items, count })
 }

@@ -1,73 +1,71 @@
 // The record of a line: its word, the number of its fields, and the form of each.
 ghost use Rattle.std.specs.Prelude.{◌≡◌, length};
-ghost use Rattle.grammar.specs.Line.{Inside, pieces_in};
+ghost use Rattle.grammar.specs.Line.{pieces_in};
+ghost use Rattle.grammar.specs.TextLine.{pieces_of};
 ghost use Rattle.grammar.specs.Record.{may_have, assigned, operands, image};
-ghost use Rattle.grammar.specs.Recorded.{Reads, record_in, form_at, binary};
+ghost use Rattle.grammar.specs.Recorded.{Reads, record_at, form_at, form_in, binary};
 
-use crate::line;
-use crate::line::{Line, NameRead, TermRead};
+use crate::line::{Line, NameRef, TermRef, TextLine};
 use tokens::bytes::TAB;
 use tokens::limits::{COLUMNS, MOST_SHARES};
 use tokens::split;
-use tokens::token::Number;
 use tokens::word::Word;
 
 // An operation on two operands.
-#[derive(Clone, Copy)]
+#[derive(Clone, Copy, PartialEq, Eq, Debug)]
 pub enum Binary {
     Xor,
     Mul,
 }
 
 // What a statement computes, with its operands as they stand in the text.
-#[derive(Clone, Copy)]
+#[derive(Clone, Copy, PartialEq, Eq, Debug)]
 pub enum FormRead {
-    Set(TermRead),
-    Two(Binary, TermRead, TermRead),
-    App(NameRead, TermRead),
+    Set(TermRef),
+    Two(Binary, TermRef, TermRef),
+    App(NameRef, TermRef),
     Rand,
 }
 
 // A record with its names by place. The columns of a map, the formula of a `let` and the names of
 // an output stay in the line.
-#[derive(Clone, Copy)]
+#[derive(Clone, Copy, PartialEq, Eq, Debug)]
 pub enum Rec {
-    Bad,
-    Shares(Number),
-    Map(NameRead, Number),
-    Input(NameRead),
+    Shares(u8),
+    Map(NameRef, u8),
+    Input(NameRef),
     Origin,
-    Assign(NameRead, FormRead),
-    Let(NameRead),
-    Result(NameRead),
+    Assign(NameRef, FormRead),
+    Let(NameRef),
+    Result(NameRef),
     Masked,
     Output,
 }
 
 // The record that a line makes, its word known.
-pub fn record(s: &[u8], l: Line, w: Word) -> Rec
-    requires { Inside s.now l }
-    ensures { Reads s.now l result w }
+#[tactic(auto, unfolding(crate::specs::Open::record_open))]
+pub fn record(l: TextLine, w: Word) -> Option<Rec>
+    ensures { Reads l.entry result w }
 {
-    if fits_word(s, l, w) {
-        return match w {
-            Word::Shares => Rec::Shares(line::count_field(s, l, 1)),
-            Word::Map => Rec::Map(line::plain_field(s, l, 1), line::hex_field(s, l, 2)),
-            Word::Input => Rec::Input(line::plain_field(s, l, 1)),
-            Word::Origin => Rec::Origin,
-            Word::Set => assign(s, l, FormRead::Set(line::term_field(s, l, 2))),
-            Word::Xor => assign(s, l, two_form(s, l, Binary::Xor)),
-            Word::Mul => assign(s, l, two_form(s, l, Binary::Mul)),
-            Word::App => assign(s, l, app_form(s, l)),
-            Word::Let => Rec::Let(line::name_field(s, l, 1)),
-            Word::Rand => assign(s, l, FormRead::Rand),
-            Word::Result => Rec::Result(line::name_field(s, l, 1)),
-            Word::Masked => Rec::Masked,
-            Word::Output => Rec::Output,
-            Word::Unknown => Rec::Bad,
-        };
+    if !fits_word(l.text, l.line, w) {
+        return None;
     }
-    Rec::Bad
+    match w {
+        Word::Shares => Some(Rec::Shares(l.count_field(1)?)),
+        Word::Map => Some(Rec::Map(l.plain_field(1)?, l.hex_field(2)?)),
+        Word::Input => Some(Rec::Input(l.plain_field(1)?)),
+        Word::Origin => Some(Rec::Origin),
+        Word::Set => assign(l, FormRead::Set(l.term_field(2)?)),
+        Word::Xor => assign(l, two_form(l, Binary::Xor)?),
+        Word::Mul => assign(l, two_form(l, Binary::Mul)?),
+        Word::App => assign(l, app_form(l)?),
+        Word::Let => Some(Rec::Let(l.name_field(1)?)),
+        Word::Rand => assign(l, FormRead::Rand),
+        Word::Result => Some(Rec::Result(l.name_field(1)?)),
+        Word::Masked => Some(Rec::Masked),
+        Word::Output => Some(Rec::Output),
+        Word::Unknown => None,
+    }
 }
 
 // The line has a number of fields that the word may have.
@@ -78,6 +76,7 @@ pub fn fits_word(s: &[u8], l: Line, w: Word) -> bool
 }
 
 // How many pieces the line has, the word among them.
+#[tactic(auto, unfolding(crate::specs::Line::pieces_in))]
 pub fn piece_count(s: &[u8], l: Line) -> usize
     ensures { result ≡ length (pieces_in s.now l) }
 {
@@ -101,38 +100,34 @@ pub fn may_have(w: Word, n: usize) -> bool
         Word::Rand => n == 2,
         Word::Result => n == 2,
         Word::Masked => n == 1,
-        Word::Output => {
-            if n < 2 {
-                return false;
-            }
-            n <= 1 + MOST_SHARES
-        }
+        Word::Output => 2 <= n && n <= 1 + MOST_SHARES,
         Word::Unknown => false,
     }
 }
 
 // A statement that gives the name of field 1.
-pub fn assign(s: &[u8], l: Line, f: FormRead) -> Rec
-    requires { Inside s.now l }
-    ensures { record_in s.now (pieces_in s.now l) result
-        ≡ assigned (pieces_in s.now l) (form_at s.now f) }
+#[tactic(auto, unfolding(crate::specs::Recorded::record_in))]
+pub fn assign(l: TextLine, f: FormRead) -> Option<Rec>
+    ensures { record_at l.entry.text.now (pieces_of l.entry) result
+        ≡ assigned (pieces_of l.entry) (Some (form_in l.entry.text.now f)) }
 {
-    Rec::Assign(line::name_field(s, l, 1), f)
+    Some(Rec::Assign(l.name_field(1)?, f))
 }
 
 // `xor` or `mul` on two operands.
-pub fn two_form(s: &[u8], l: Line, f: Binary) -> FormRead
-    requires { Inside s.now l }
-    ensures { form_at s.now result
-        ≡ operands (binary f) (pieces_in s.now l) }
+pub fn two_form(l: TextLine, f: Binary) -> Option<FormRead>
+    ensures { form_at l.entry.text.now result ≡ operands (binary f) (pieces_of l.entry) }
 {
-    FormRead::Two(f, line::term_field(s, l, 2), line::term_field(s, l, 3))
+    let a = l.term_field(2)?;
+    let b = l.term_field(3)?;
+    Some(FormRead::Two(f, a, b))
 }
 
 // A map on an operand.
-pub fn app_form(s: &[u8], l: Line) -> FormRead
-    requires { Inside s.now l }
-    ensures { form_at s.now result ≡ image (pieces_in s.now l) }
+pub fn app_form(l: TextLine) -> Option<FormRead>
+    ensures { form_at l.entry.text.now result ≡ image (pieces_of l.entry) }
 {
-    FormRead::App(line::plain_field(s, l, 2), line::term_field(s, l, 3))
+    let f = l.plain_field(2)?;
+    let a = l.term_field(3)?;
+    Some(FormRead::App(f, a))
 }

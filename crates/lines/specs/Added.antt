@@ -3,16 +3,18 @@
 use Rattle.std.specs.Prelude.{ℕ, ◌+◌, ◌≤◌, ◌<◌, Bool, ◌||◌, cond, ltb, eqb, replicate}
 use Rattle.tokens.specs.Limits.{most_shares}
 use Rattle.lines.specs.declared.known.Known.{Known}
+use Rattle.lines.specs.declared.order.Stage.TheVariants.{Start}
+use Rattle.lines.specs.Stage.{stage_of}
 use Rattle.lines.specs.declared.step.Put.{Put}
 use Rattle.lines.specs.declared.step.Put.TheVariants.{Nothing, Map, Input, Stated, Let}
-use Rattle.rules.specs.Order.{at_start, in_masked}
+use Rattle.rules.specs.Order.{in_masked}
 use Rattle.rules.specs.Limits.{most_maps, most_inputs, most_variables, most_statements}
 
 -- before the first line
 unfoldable pub blank : Known
 blank =
     record {
-      stage = at_start;
+      stage = Start;
       shares = 0;
       mapped = 0;
       inputs = 0;
@@ -61,7 +63,7 @@ masked_more k drawn n =
 
 -- n statements more in the block that they stand in
 abbrev pub stated : Known → ℕ → ℕ → Known
-stated k drawn n = cond (eqb k.stage in_masked) (masked_more k drawn n) (origin_more k n)
+stated k drawn n = cond (eqb (stage_of k.stage) in_masked) (masked_more k drawn n) (origin_more k n)
 
 -- one statement more would be one too many, or draw a variable too many
 abbrev pub crowded : Known → ℕ → Bool
@@ -78,7 +80,7 @@ StatementsFit k n = (1 ≤ n) × (k.origin + k.masked + n ≤ most_statements)
 -- what a record gives is within the limits
 abbrev pub Fits : Known → Put → Type 0
 Fits k Nothing = Unit {0}
-Fits k (Map x) = k.mapped < most_maps
+Fits k (Map x f) = k.mapped < most_maps
 Fits k (Input x) = InputFits k
 Fits k (Stated x st) = StatementsFit k 1
 Fits k (Let x f) = StatementsFit k f.count

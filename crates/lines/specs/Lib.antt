@@ -1,3 +1,4 @@
+pub mod Stage
 pub mod Lets
 pub mod Given
 pub mod Known

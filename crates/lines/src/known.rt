@@ -1,20 +1,22 @@
 // What the lines above have given, in numbers: the stage, the counts, the result and the outputs.
-ghost use Rattle.std.specs.Prelude.{◌≡◌, ◌≤◌};
-ghost use Rattle.lookup.specs.Names.{Within};
+ghost use Rattle.std.specs.Prelude.{◌≡◌, ◌≤◌, List, ℕ};
+ghost use Rattle.grammar.specs.declared.line.NameRef.{NameRef};
 ghost use Rattle.rules.specs.Limits.{most_statements};
-ghost use Rattle.lines.specs.Known.{Sound, block_names};
+ghost use Rattle.lookup.specs.Names.{names_in};
+ghost use Rattle.lines.specs.Known.{block_names};
 ghost use Rattle.lines.specs.Added.{blank, stated, crowded};
 
-use crate::order::{AT_START, IN_MASKED};
-use grammar::line::Line;
+use crate::limited::Limited;
+use crate::order::Stage;
 use lookup::names::Names;
 use rules::limits::{MASKED_FROM, MOST_STATEMENTS, MOST_VARIABLES, ORIGIN_FROM};
 use tokens::limits::MOST_SHARES;
 
-// The state of reading between two lines, but for the names, maps and statements themselves.
+// The state of reading between two lines, but for the names, maps and statements themselves. There
+// is no heap, so the places of the outputs are an array, and how many there are stands beside it.
 #[derive(Clone, Copy)]
 pub struct Known {
-    pub stage: u8,
+    pub stage: Stage,
     pub shares: usize,
     pub mapped: usize,
     pub inputs: usize,
@@ -28,22 +30,13 @@ pub struct Known {
     pub named: usize,
 }
 
-// What a record is taken by: what is known above it, its line and the line's number, and whether it
-// may stand there.
-#[derive(Clone, Copy)]
-pub struct Setting {
-    pub known: Known,
-    pub line: Line,
-    pub number: usize,
-    pub stands: bool,
-}
-
 // Before the first line.
-pub fn begin() -> Known
-    ensures { result ≡ blank }
+#[tactic(auto, unfolding(crate::specs::Added::blank))]
+pub fn begin() -> Limited
+    ensures { result.known ≡ blank }
 {
-    Known {
-        stage: AT_START,
+    let known = Known {
+        stage: Stage::Start,
         shares: 0,
         mapped: 0,
         inputs: 0,
@@ -55,15 +48,16 @@ pub fn begin() -> Known
         result: 0,
         outputs: [0; MOST_SHARES],
         named: 0,
-    }
+    };
+    Limited { known }
 }
 
 // The names of the block that a statement stands in.
-pub(crate) fn block_names(k: Known) -> Names
-    requires { Sound k }
-    ensures { Within result × (result ≡ block_names k) }
+pub(crate) fn block_names(h: Limited) -> Names
+    ensures { (s : List ℕ) (t : List NameRef) → names_in s t result ≡ block_names s t h.known }
 {
-    if k.stage == IN_MASKED {
+    let k = h.known;
+    if k.stage.is_masked() {
         return Names {
             from: MASKED_FROM,
             count: k.parts,
@@ -76,10 +70,11 @@ pub(crate) fn block_names(k: Known) -> Names
 }
 
 // One statement more would be one too many, or draw a variable too many.
-pub(crate) fn is_crowded(k: Known, drawn: usize) -> bool
-    requires { (Sound k) × (drawn ≤ 1) }
-    ensures { result ≡ crowded k drawn }
+pub(crate) fn is_crowded(h: Limited, drawn: usize) -> bool
+    requires { drawn ≤ 1 }
+    ensures { result ≡ crowded h.known drawn }
 {
+    let k = h.known;
     if MOST_STATEMENTS < k.origin + k.masked + 1 {
         return true;
     }
@@ -87,12 +82,13 @@ pub(crate) fn is_crowded(k: Known, drawn: usize) -> bool
 }
 
 // So many statements more in the block that they stand in, with the variables that they draw.
-pub(crate) fn with_statements(k: Known, drawn: usize, n: usize) -> Known
-    requires { (Sound k) × (drawn ≤ 1) × (n ≤ most_statements) }
-    ensures { result ≡ stated k drawn n }
+pub(crate) fn with_statements(h: Limited, drawn: usize, n: usize) -> Known
+    requires { (drawn ≤ 1) × (n ≤ most_statements) }
+    ensures { result ≡ stated h.known drawn n }
 {
+    let k = h.known;
     let mut next = k;
-    if k.stage == IN_MASKED {
+    if k.stage.is_masked() {
         next.variables = k.variables + drawn;
         next.masked = k.masked + n;
         next.parts = k.parts + n;

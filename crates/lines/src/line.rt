@@ -1,61 +1,63 @@
 // A line: its refusal, or what is known behind it and what is to be stored.
 ghost use Rattle.std.specs.Prelude.{◌≡◌, length};
-ghost use Rattle.grammar.specs.Line.{Inside};
-ghost use Rattle.lines.specs.Known.{Sound};
 ghost use Rattle.lines.specs.Taken.{RecordLeads, LineLeads};
 
-use crate::known::{Known, Setting};
-use crate::step::{Put, Step};
-use crate::{order, step, take};
-use grammar::line::Line;
-use grammar::{line, record};
-use lookup::compile::Codes;
-use lookup::names::Table;
+use crate::limited::Limited;
+use crate::setting::Setting;
+use crate::step::Step;
+use crate::{order, take};
+use grammar::line::TextLine;
+use grammar::record;
+use lookup::compile::Ops;
+use lookup::table::Table;
+use tokens::refusal::Refusal;
 use tokens::word::Word;
-use tokens::{bytes, split, word};
+use tokens::{bytes, word};
 
 // Line n, which its line feed ends.
-pub fn take_line(s: &[u8], t: &Table, k: Known, l: Line, n: usize, codes: &mut Codes) -> Step
-    requires { (Inside s.now l) × (Sound k) }
-    ensures { LineLeads s.now t.now codes.new k l n result
-        × (length codes.new ≡ length codes.old) }
+pub fn take_line(
+    l: TextLine,
+    t: &Table,
+    h: Limited,
+    n: usize,
+    ops: &mut Ops,
+) -> Result<Step, Refusal>
+    ensures { LineLeads t.now ops.new h.known l.entry n result
+        × (length ops.new ≡ length ops.old) }
 {
-    if bytes::all_allowed(split::part(s, l.from, l.len)) {
-        let f = line::field(s, l, 0);
-        let w = word::word_of(split::part(s, f.at, f.len));
-        return take_record(s, t, k, l, n, w, codes);
+    if bytes::all_allowed(l.bytes()) {
+        let w = word::word_of(l.piece(0));
+        return take_record(l, t, h, n, w, ops);
     }
-    step::make(3, k, Put::Nothing)
+    Err(Refusal::StrangeByte)
 }
 
 // The record of line n, its word known.
 pub(crate) fn take_record(
-    s: &[u8],
+    l: TextLine,
     t: &Table,
-    k: Known,
-    l: Line,
+    h: Limited,
     n: usize,
     w: Word,
-    codes: &mut Codes,
-) -> Step
-    requires { (Inside s.now l) × (Sound k) }
-    ensures { RecordLeads s.now t.now codes.new k l n w result
-        × (length codes.new ≡ length codes.old) }
+    ops: &mut Ops,
+) -> Result<Step, Refusal>
+    ensures { RecordLeads t.now ops.new h.known l.entry n w result
+        × (length ops.new ≡ length ops.old) }
 {
-    let r = record::record(s, l, w);
-    let stands = order::may_stand(w, k.stage);
+    let r = record::record(l, w).ok_or(Refusal::Form)?;
+    let stands = order::may_stand(w, h.known.stage);
     let here = Setting {
-        known: k,
+        table: t,
+        held: h,
         line: l,
         number: n,
         stands,
     };
-    let step = take::take_any(s, t, here, r, codes);
-    if step.refusal != 0 {
-        return step;
-    }
-    let stage = order::stage_after(w, k.stage);
-    let mut next = step;
-    next.known.stage = stage;
-    next
+    let step = take::take_any(here, r, ops)?;
+    let mut known = step.held.known;
+    known.stage = order::stage_after(w, known.stage);
+    Ok(Step {
+        held: Limited { known },
+        put: step.put,
+    })
 }

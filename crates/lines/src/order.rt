@@ -1,80 +1,69 @@
 // The order of records.
-ghost use Rattle.std.specs.Prelude.{◌≡◌, ◌||◌, eqb};
-ghost use Rattle.rules.specs.Order.{may_stand, stage_after};
+ghost use Rattle.std.specs.Prelude.{◌≡◌, eqb};
+ghost use Rattle.rules.specs.Order.{may_stand, stage_after, in_masked};
+ghost use Rattle.lines.specs.Stage.{stage_of};
 
 use tokens::word::Word;
 
-// Nothing is read yet.
-pub const AT_START: u8 = 0;
+// How far a text is read.
+#[derive(Clone, Copy, PartialEq, Eq, Debug)]
+pub enum Stage {
+    // Nothing is read yet.
+    Start,
+    // Behind `shares`, or behind a map.
+    Maps,
+    // Behind an input.
+    Inputs,
+    // In the origin block.
+    Origin,
+    // Behind `result`.
+    Result,
+    // In the masked block.
+    Masked,
+    // Behind `output`.
+    End,
+}
 
-// Behind `shares`, or behind a map.
-pub const IN_MAPS: u8 = 1;
-
-// Behind an input.
-pub const IN_INPUTS: u8 = 2;
-
-// In the origin block.
-pub const IN_ORIGIN: u8 = 3;
-
-// Behind `result`.
-pub const AT_RESULT: u8 = 4;
-
-// In the masked block.
-pub const IN_MASKED: u8 = 5;
-
-// Behind `output`.
-pub const AT_END: u8 = 6;
+impl Stage {
+    // A statement that stands here is one of the masked block.
+    pub fn is_masked(self) -> bool
+        ensures { result ≡ eqb (stage_of self) in_masked }
+    {
+        self == Stage::Masked
+    }
+}
 
 // The word may stand at the stage.
-pub(crate) fn may_stand(w: Word, stage: u8) -> bool
-    ensures { result ≡ may_stand w stage }
+pub(crate) fn may_stand(w: Word, stage: Stage) -> bool
+    ensures { result ≡ may_stand w (stage_of stage) }
 {
     match w {
-        Word::Shares => stage == AT_START,
-        Word::Map => stage == IN_MAPS,
-        Word::Input => either(stage, IN_MAPS, IN_INPUTS),
-        Word::Origin => either(stage, IN_MAPS, IN_INPUTS),
-        Word::Set => either(stage, IN_ORIGIN, IN_MASKED),
-        Word::Xor => either(stage, IN_ORIGIN, IN_MASKED),
-        Word::Mul => either(stage, IN_ORIGIN, IN_MASKED),
-        Word::App => either(stage, IN_ORIGIN, IN_MASKED),
-        Word::Let => either(stage, IN_ORIGIN, IN_MASKED),
-        Word::Rand => stage == IN_MASKED,
-        Word::Result => stage == IN_ORIGIN,
-        Word::Masked => stage == AT_RESULT,
-        Word::Output => stage == IN_MASKED,
+        Word::Shares => stage == Stage::Start,
+        Word::Map => stage == Stage::Maps,
+        Word::Input | Word::Origin => (stage == Stage::Maps) | (stage == Stage::Inputs),
+        Word::Set | Word::Xor | Word::Mul | Word::App | Word::Let => {
+            (stage == Stage::Origin) | (stage == Stage::Masked)
+        }
+        Word::Rand => stage == Stage::Masked,
+        Word::Result => stage == Stage::Origin,
+        Word::Masked => stage == Stage::Result,
+        Word::Output => stage == Stage::Masked,
         Word::Unknown => false,
     }
 }
 
 // The stage behind a word that may stand at a stage.
-pub(crate) fn stage_after(w: Word, stage: u8) -> u8
-    ensures { result ≡ stage_after w stage }
+pub(crate) fn stage_after(w: Word, stage: Stage) -> Stage
+    ensures { stage_of result ≡ stage_after w (stage_of stage) }
 {
     match w {
-        Word::Shares => IN_MAPS,
-        Word::Map => IN_MAPS,
-        Word::Input => IN_INPUTS,
-        Word::Origin => IN_ORIGIN,
-        Word::Set => stage,
-        Word::Xor => stage,
-        Word::Mul => stage,
-        Word::App => stage,
-        Word::Let => stage,
-        Word::Rand => stage,
-        Word::Result => AT_RESULT,
-        Word::Masked => IN_MASKED,
-        Word::Output => AT_END,
-        Word::Unknown => stage,
+        Word::Shares | Word::Map => Stage::Maps,
+        Word::Input => Stage::Inputs,
+        Word::Origin => Stage::Origin,
+        Word::Result => Stage::Result,
+        Word::Masked => Stage::Masked,
+        Word::Output => Stage::End,
+        Word::Set | Word::Xor | Word::Mul | Word::App | Word::Let => stage,
+        Word::Rand | Word::Unknown => stage,
     }
-}
-
-// The stage is one of two.
-pub(crate) fn either(stage: u8, a: u8, b: u8) -> bool
-    ensures { result ≡ (eqb stage a || eqb stage b) }
-{
-    if stage == a {
-        return true;
-    }
-    stage == b
 }

@@ -1,11 +1,11 @@
 // What one record leads to: its first fault, or what is known behind it and what is to be stored.
 ghost use Rattle.std.specs.Prelude.{◌≡◌};
-ghost use Rattle.lines.specs.Taken.{first_fault, step_of};
+ghost use Rattle.lines.specs.Taken.{fault_number, first_fault};
 
-use crate::known::Known;
+use crate::limited::Limited;
 use grammar::line::NameRef;
 use rules::types::{AffineMap, Statement};
-use tokens::limits::COLUMNS;
+use tokens::refusal::Refusal;
 
 // A formula: where its field stands, how many statements it counts as, and its line.
 #[derive(Clone, Copy)]
@@ -17,66 +17,48 @@ pub struct Letting {
 }
 
 // What a record gives: nothing, a map with its name, an input's name, a statement with its name, or
-// a formula with its name.
+// a formula with its name. Nothing is a case like the others: no one asks whether there is anything.
 #[derive(Clone, Copy)]
 pub enum Put {
     Nothing,
-    Map(NameRef),
+    Map(NameRef, AffineMap),
     Input(NameRef),
     Stated(NameRef, Statement),
     Let(NameRef, Letting),
 }
 
-// A refusal's number, or 0 with what is known behind and what is to be stored; the map stands
-// beside it.
+// What is known behind a record, and what is to be stored.
 #[derive(Clone, Copy)]
 pub struct Step {
-    pub refusal: u8,
-    pub known: Known,
+    pub held: Limited,
     pub put: Put,
-    pub map: AffineMap,
 }
 
-// A step that gives no map.
-pub(crate) fn make(e: u8, k: Known, p: Put) -> Step
-    ensures { result ≡ step_of e k p }
-{
-    let map = AffineMap {
-        constant: 0,
-        columns: [0; COLUMNS],
-    };
-    Step {
-        refusal: e,
-        known: k,
-        put: p,
-        map,
-    }
-}
-
-// The number of the first fault, or 0.
+// The first fault of a record, where it has one.
+#[tactic(auto, unfolding(crate::specs::Taken::first_fault, rules::specs::Read::first_of))]
 pub(crate) fn first_fault(
     stands: bool,
     repeats: bool,
     unknown: bool,
     exceeds: bool,
     miscounts: bool,
-) -> u8
-    ensures { result ≡ first_fault stands repeats unknown exceeds miscounts }
+) -> Result<(), Refusal>
+    ensures { fault_number result ≡ first_fault stands repeats unknown exceeds miscounts }
 {
-    if stands {
-        if repeats {
-            return 7;
-        }
-        if unknown {
-            return 8;
-        }
-        if exceeds {
-            return 9;
-        }
-        if miscounts {
-            return 10;
-        }
-        return 0;
+    if !stands {
+        return Err(Refusal::Order);
     }
-    6
+    if repeats {
+        return Err(Refusal::NameTaken);
+    }
+    if unknown {
+        return Err(Refusal::UnknownName);
+    }
+    if exceeds {
+        return Err(Refusal::TooMany);
+    }
+    if miscounts {
+        return Err(Refusal::OutputCount);
+    }
+    Ok(())
 }

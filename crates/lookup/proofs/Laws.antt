@@ -1,7 +1,7 @@
 pub mod Named
-pub mod Alike
 pub mod Shares
 pub mod Arrays
+pub mod Placing
 pub mod Finding
 pub mod Looking
 pub mod Parts

@@ -1,46 +1,52 @@
 -- What a formula looked up gives: its value, and its operations in a lent array. Assumes nothing.
 use Rattle.std.specs.Prelude.{ℕ, ◌+◌, ◌-◌, ◌≤◌, ◌≡◌, List, Bool, length, take, drop}
-use Rattle.std.proofs.Math.Option.{Option, none, some}
+use Rattle.std.specs.Prelude.{Option, None as none, Some as some}
 use Rattle.rules.specs.declared.types.Operand.{Operand}
+use Rattle.rules.specs.declared.types.Op.{Op}
+use Rattle.grammar.specs.declared.line.NameRef.{NameRef}
+use Rattle.lookup.specs.declared.scope.TermFound.{TermFound}
 use Rattle.lookup.specs.declared.compile.Compiled.{Compiled}
 use Rattle.lookup.specs.declared.compile.Lookup.{Lookup}
 use Rattle.tokens.specs.Ascii.{is_mark}
 use Rattle.tokens.specs.Split.{until}
-use Rattle.tokens.specs.Token.{Name, read_name, read_term}
+use Rattle.tokens.specs.Token.{◌>>=◌, Name, name, read_name, read_term}
 use Rattle.grammar.specs.Formula.{Formula, Parsed, front, operations, parsed}
 use Rattle.rules.specs.Limits.{most_names, most_statements}
 use Rattle.rules.specs.Scope.{unknown_formula, value_of, compiled}
-use Rattle.lookup.specs.Names.{names_in, Within}
-use Rattle.lookup.specs.Found.{term_found, as_term}
+use Rattle.lookup.specs.Names.{names_in}
+use Rattle.lookup.specs.Found.{term_found}
 use Rattle.lookup.specs.Coded.{written}
 
 -- the names of the set and of the maps that a formula reads
-abbrev pub set_in : List ℕ → List ℕ → Lookup → List Name
+abbrev pub set_in : List ℕ → List NameRef → Lookup → List Name
 set_in s t w = names_in s t w.names
 
 -- the names of the maps
-abbrev pub maps_in : List ℕ → List ℕ → Lookup → List Name
+abbrev pub maps_in : List ℕ → List NameRef → Lookup → List Name
 maps_in s t w = names_in s t w.maps
 
 -- what was looked up
 abbrev pub compiled_of : ℕ → Bool → Operand → ℕ → Compiled
 compiled_of end unknown operand done = record { end = end; unknown = unknown; operand = operand; done = done }
 
--- the map whose name stands at place `at` of f
-abbrev pub MapLooked : List Name → List ℕ → ℕ → ℕ → Compiled → Type 0
-MapLooked maps f at k r =
-    let x = term_found maps (as_term (read_name (front (drop at f)))) in
-    r ≡ compiled_of (at + until is_mark (drop at f)) x.unknown x.operand k
+-- a part that ends at a place, with what was looked up for it
+abbrev pub looked : ℕ → TermFound → ℕ → Compiled
+looked end x k = compiled_of end x.unknown x.operand k
 
--- the operand from place `at` of f to the mark
-abbrev pub TermLooked : List Name → List ℕ → ℕ → ℕ → ℕ → Compiled → Type 0
+-- the map whose name stands at place `at` of f, or none
+abbrev pub MapLooked : List Name → List ℕ → ℕ → ℕ → Option Compiled → Type 0
+MapLooked maps f at k r =
+    r ≡ (read_name (front (drop at f)) >>= λ g.
+    some (looked (at + until is_mark (drop at f)) (term_found maps (name g)) k))
+
+-- the operand from place `at` of f to the mark, or none
+abbrev pub TermLooked : List Name → List ℕ → ℕ → ℕ → ℕ → Option Compiled → Type 0
 TermLooked ms f at mark k r =
-    let x = term_found ms (read_term (take (mark - at) (drop at f))) in
-    r ≡ compiled_of mark x.unknown x.operand k
+    r ≡ (read_term (take (mark - at) (drop at f)) >>= λ a. some (looked mark (term_found ms a) k))
 
 -- the formula e at place `at` of f looked up, its operations written from entry k on; u stands behind it
-pub record CompileIs (ms maps : List Name) (base at k : ℕ) (f entry exit : List ℕ) (r : Compiled) (e : Formula)
-    (u : List ℕ) : Type 0 where
+pub record CompileIs (ms maps : List Name) (base at k : ℕ) (f : List ℕ) (entry exit : List Op) (r : Compiled)
+    (e : Formula) (u : List ℕ) : Type 0 where
   pub from : at ≤ r.end
   pub within : r.end ≤ length f
   pub behind : drop r.end f ≡ u
@@ -50,7 +56,7 @@ pub record CompileIs (ms maps : List Name) (base at k : ℕ) (f entry exit : Lis
   pub codes : exit ≡ written entry k (compiled ms maps (base + k) e)
 
 -- the formula at place `at` of f, which is one
-abbrev pub Compiles : List Name → List Name → ℕ → ℕ → ℕ → List ℕ → List ℕ → List ℕ → Compiled → Option Parsed → Type 0
+abbrev pub Compiles : List Name → List Name → ℕ → ℕ → ℕ → List ℕ → List Op → List Op → Compiled → Option Parsed → Type 0
 Compiles ms maps base at k f entry exit r none = Unit {0}
 Compiles ms maps base at k f entry exit r (some p) = CompileIs ms maps base at k f entry exit r p.0 p.1
 
@@ -59,10 +65,8 @@ abbrev pub Room : ℕ → Option Parsed → Type 0
 Room done none = ⊥
 Room done (some p) = done + operations p.0 ≤ most_statements
 
--- the names are in the table, the values have places, and f stands in the text
+-- the values have places, and f stands in the text
 pub record Looks (s f : List ℕ) (w : Lookup) : Type 0 where
-  pub names : Within w.names
-  pub maps : Within w.maps
   pub based : w.base ≤ most_names
   pub field : f ≡ take (length f) (drop w.from s)
   pub inside : w.from + length f ≤ length s
@@ -72,14 +76,15 @@ abbrev pub Compilable : List ℕ → List ℕ → Lookup → ℕ → ℕ → Typ
 Compilable s f w at k = Looks s f w × (at ≤ length f) × Room k (parsed (drop at f))
 
 -- the whole outcome of looking up the formula at place `at` of f, in the sets of the table t
-abbrev pub CompilesAt : (s t f entry exit : List ℕ) → Lookup → ℕ → ℕ → Compiled → Type 0
+abbrev pub CompilesAt : (s : List ℕ) (t : List NameRef) (f : List ℕ) (entry exit : List Op)
+    → Lookup → ℕ → ℕ → Compiled → Type 0
 CompilesAt s t f entry exit w at k r =
     Compiles (set_in s t w) (maps_in s t w) w.base at k f entry exit r (parsed (drop at f))
 
 -- the whole outcome of looking up a map
-abbrev pub MapLookedAt : (s t f : List ℕ) → Lookup → ℕ → ℕ → Compiled → Type 0
+abbrev pub MapLookedAt : (s : List ℕ) (t : List NameRef) (f : List ℕ) → Lookup → ℕ → ℕ → Option Compiled → Type 0
 MapLookedAt s t f w at k r = MapLooked (maps_in s t w) f at k r
 
 -- the whole outcome of looking up an operand
-abbrev pub TermLookedAt : (s t f : List ℕ) → Lookup → ℕ → ℕ → ℕ → Compiled → Type 0
+abbrev pub TermLookedAt : (s : List ℕ) (t : List NameRef) (f : List ℕ) → Lookup → ℕ → ℕ → ℕ → Option Compiled → Type 0
 TermLookedAt s t f w at mark k r = TermLooked (set_in s t w) f at mark k r

@@ -2,8 +2,7 @@
 #![tactic(auto)]
 
 pub mod compile;
-pub mod decode;
-pub mod flags;
 pub mod names;
 pub mod outputs;
 pub mod scope;
+pub mod table;

@@ -1,6 +1,5 @@
 pub mod Put
-pub mod Decimal
-pub mod Hexes
+pub mod Head
 pub mod Listed
 pub mod Line
 pub mod Roomy

@@ -1,4 +1,5 @@
 pub mod Parts
+pub mod Walks
 pub mod Merging
 pub mod Merged
 pub mod Products

@@ -39,6 +39,7 @@ pub record ApplyAsked (m c : ℕ) (ls b src : List ℕ) (k : ℕ) (t : List ℕ)
 
 -- the map with the constant c and the coefficients ls, applied to the first k terms of src, which are used up
 pub record Applied (m c : ℕ) (ls b b' src src' : List ℕ) (k w n : ℕ) : Type 0 where
-  pub held : Holds b b' w ((one_if c + nonzeros ls * k) * w) n (map_poly (gf m) (w - 1) c ls (read_terms (w - 1) src 0 k))
+  pub held : Holds b b' w ((one_if c + nonzeros ls * k) * w) n
+      (map_poly (gf m) (w - 1) c ls (read_terms (w - 1) src 0 k))
   pub source : length src' ≡ length src
   pub above : (j : ℕ) → k * w ≤ j → get_or src' j 0 ≡ get_or src j 0

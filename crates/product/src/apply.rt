@@ -5,7 +5,6 @@ ghost use Rattle.product.specs.Apply.{Constant, Squared, ScaledAsked, ScaledAdde
 ghost use Rattle.product.specs.Apply.{ApplyAsked, Applied};
 
 use crate::product::{product_row, term_product};
-use buffer::term::write_at;
 
 // Map i of those whose coefficients are `lists`, with the constant c, applied to the k terms of
 // src, written to the front of b; answers how many terms that is. src is used up, and t is room for
@@ -36,14 +35,11 @@ fn apply(m: u8, list: [u8; 8], c: u8, b: &mut [u8], src: &mut [u8], k: usize, t:
 {
     let w = t.len();
     let mut n = write_constant(b, c, w);
-    let mut j: usize = 0;
-    // what the coefficients from j on add to the terms in b gives the whole map; src is squared j
-    // times
-    while j < 8 {
-        let l = list[j];
+    // what the coefficients from l on add to the terms in b gives the whole map; src is squared as
+    // many times as there are coefficients before l
+    for l in list {
         n = scaled_row(m, b, n, l, src, k, t);
         square_terms(m, src, k, t);
-        j += 1;
     }
     n
 }
@@ -58,12 +54,7 @@ fn write_constant(b: &mut [u8], c: u8, w: usize) -> usize
         return 0;
     }
     b[0] = c;
-    let mut j = 1;
-    // the coefficient is written, and the powers below j are zero
-    while j < w {
-        b[j] = 0;
-        j += 1;
-    }
+    b[1..w].fill(0);
     1
 }
 
@@ -77,8 +68,7 @@ fn scaled_row(m: u8, b: &mut [u8], r: usize, l: u8, src: &[u8], k: usize, t: &mu
     if l == 0 {
         return r;
     }
-    let f = [l];
-    product_row(m, b, r, &f, src, k, t)
+    product_row(m, b, r, &[l], src, k, t)
 }
 
 // Each of the k terms of src squared in its place; t is room for a term.
@@ -87,13 +77,11 @@ fn square_terms(m: u8, src: &mut [u8], k: usize, t: &mut [u8])
     ensures { Squared m src.old src.new k (length t.old) }
 {
     let w = t.len();
-    let mut j = k;
-    let mut at = k * w;
-    // the terms from j on are squared
-    while 0 < j {
-        j -= 1;
-        at -= w;
-        term_product(m, &src[at..at + w], &src[at..at + w], t);
-        write_at(src, at, t);
+    // the terms before j are squared; by index, since of chunks that a walk lends out to be written
+    // std tells their lengths alone
+    for j in 0..k {
+        let term = &mut src[j * w..j * w + w];
+        term_product(m, term, term, t);
+        term.copy_from_slice(t);
     }
 }

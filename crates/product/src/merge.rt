@@ -1,5 +1,6 @@
 // Two sorted runs of terms in one buffer, a sum and a piece behind it, merged in one pass.
-ghost use Rattle.std.specs.Prelude.{◌≡◌, [], ◌∷◌, suc, ◌+◌, ◌*◌, ◌-◌, ◌<◌, ◌≤◌, length, get_or, take, drop};
+ghost use Rattle.std.specs.Prelude.{◌≡◌, [], ◌∷◌, suc, ◌+◌, ◌*◌, ◌-◌, ◌<◌, ◌≤◌};
+ghost use Rattle.std.specs.Prelude.{length, get_or, take, drop};
 ghost use Rattle.field.specs.Xor.{◌⊕◌};
 ghost use Rattle.poly.specs.Poly.{keep};
 ghost use Rattle.buffer.specs.Buffer.{term_at, answer};
@@ -7,6 +8,7 @@ ghost use Rattle.product.specs.Merge.{StepAsked, SteppedAny, MergeAsked, MergedA
 ghost use Rattle.product.specs.Merge.{Grown, facing};
 
 use buffer::term::{compare_powers, move_down, move_up};
+use std::cmp::Ordering;
 
 // How far a merge is: how many terms are written, and the next term of the sum and of the piece.
 #[derive(Clone, Copy)]
@@ -30,6 +32,7 @@ pub(crate) fn merge_terms(b: &mut [u8], n: usize, at: usize, r: usize, w: usize)
         piece: at,
     };
     // the terms written, and what those left of the piece and of the sum give, are the result
+    // a step passes a term of the piece, of the sum, or of both: no range counts the steps
     while g.piece < last {
         g = merge_step(b, g, at, w);
     }
@@ -49,39 +52,39 @@ fn merge_step(b: &mut [u8], g: Merge, end: usize, w: usize) -> Merge
     let k = g.terms;
     let i = g.sum;
     let j = g.piece;
-    let o = first_of(b, i, end, j, w);
-    if o == 0 {
-        take_term(b, j, k, w);
-        return Merge {
-            terms: k + 1,
-            sum: i,
-            piece: j + 1,
-        };
-    }
-    if o == 2 {
-        take_term(b, i, k, w);
-        return Merge {
-            terms: k + 1,
+    match first_of(b, i, end, j, w) {
+        Ordering::Less => {
+            take_term(b, j, k, w);
+            Merge {
+                terms: k + 1,
+                piece: j + 1,
+                ..g
+            }
+        }
+        Ordering::Greater => {
+            take_term(b, i, k, w);
+            Merge {
+                terms: k + 1,
+                sum: i + 1,
+                ..g
+            }
+        }
+        Ordering::Equal => Merge {
+            terms: join_terms(b, i, j, k, w),
             sum: i + 1,
-            piece: j,
-        };
-    }
-    let n = join_terms(b, i, j, k, w);
-    Merge {
-        terms: n,
-        sum: i + 1,
-        piece: j + 1,
+            piece: j + 1,
+        },
     }
 }
 
-// Which comes first, term j of the piece or term i of the sum, which ends at term `end`: 0 the
-// piece's, also where the sum is at its end, 1 they have the same powers, 2 the sum's.
-fn first_of(b: &[u8], i: usize, end: usize, j: usize, w: usize) -> u8
+// Which comes first, term j of the piece or term i of the sum, which ends at term `end`; the
+// piece's where the sum is at its end.
+fn first_of(b: &[u8], i: usize, end: usize, j: usize, w: usize) -> Ordering
     requires { (0 < w) × (i ≤ end) × (end ≤ j) × ((j + 1) * w ≤ length b.now) }
     ensures { result ≡ answer (facing b.now w i end j) }
 {
     if i == end {
-        return 0;
+        return Ordering::Less;
     }
     let x = i * w;
     let y = j * w;

@@ -6,7 +6,6 @@ ghost use Rattle.product.specs.Product.{SumAsked, SumAdded, ProductSummed};
 
 use crate::merge::merge_terms;
 use buffer::insert::insert_term;
-use buffer::term::write_at;
 use field::times;
 
 // The product of the i terms of p and the k terms of q, written to the front of b; answers how many
@@ -19,9 +18,9 @@ pub fn product(m: u8, b: &mut [u8], p: &[u8], i: usize, q: &[u8], k: usize, t: &
 {
     let top = i * k * t.len();
     if k < i {
-        return product_rows(m, &mut b[0..top], q, k, p, i, t);
+        return product_rows(m, &mut b[..top], q, k, p, i, t);
     }
-    product_rows(m, &mut b[0..top], p, i, q, k, t)
+    product_rows(m, &mut b[..top], p, i, q, k, t)
 }
 
 // The products of the i terms of p and all k terms of q, a row for each term of p, added up at the
@@ -33,13 +32,9 @@ fn product_rows(m: u8, b: &mut [u8], p: &[u8], i: usize, q: &[u8], k: usize, t: 
 {
     let w = t.len();
     let mut n = 0;
-    let mut j = i;
-    let mut at = i * w;
-    // the products of the terms of p from j on and all of q are added up
-    while 0 < j {
-        j -= 1;
-        at -= w;
-        n = add_row(m, b, n, &p[at..at + w], q, k, t);
+    // the products of the terms of p behind f and all of q are added up
+    for f in p[..i * w].rchunks_exact(w) {
+        n = add_row(m, b, n, f, q, k, t);
     }
     n
 }
@@ -55,6 +50,7 @@ fn add_row(m: u8, b: &mut [u8], r: usize, f: &[u8], src: &[u8], k: usize, t: &mu
     let mut n = r;
     let mut rest = k;
     // the products of f and the terms from `rest` on are added
+    // a piece is as large as the room behind the terms added so far allows: no chunks are all alike
     while 0 < rest {
         let c = piece_size(b.len() - n * w, rest, w);
         rest -= c;
@@ -71,14 +67,7 @@ fn piece_size(left: usize, j: usize, w: usize) -> usize
     requires { (0 < j) × (0 < w) }
     ensures { (0 < result) × (result ≤ j) }
 {
-    let half = left / 2 / w;
-    if half == 0 {
-        return 1;
-    }
-    if j < half {
-        return j;
-    }
-    half
+    (left / 2 / w).clamp(1, j)
 }
 
 // The products of the term f and each of the c terms of src added to the n sorted terms of b: made
@@ -116,14 +105,10 @@ pub(crate) fn product_row(
 {
     let w = t.len();
     let mut n = r;
-    let mut j = 0;
-    let mut at = 0;
-    // the products of f and the terms before j are inserted
-    while j < k {
-        term_product(m, f, &src[at..at + w], t);
+    // the products of f and the terms before q are inserted
+    for q in src[..k * w].chunks_exact(w) {
+        term_product(m, f, q, t);
         n = insert_term(b, n, t);
-        j += 1;
-        at += w;
     }
     n
 }
@@ -136,18 +121,19 @@ pub(crate) fn term_product(m: u8, p: &[u8], q: &[u8], t: &mut [u8])
     ensures { t.new ≡ term_times m p.now q.now }
 {
     t[0] = times(m, p[0], q[0]);
-    let mut j = 1;
     // the coefficient and the powers below j are written
-    while j < p.len() {
+    for j in 1..p.len() {
         t[j] = power_sum(p[j], q[j]);
-        j += 1;
     }
-    write_at(t, j, &q[j..]);
+    t[p.len()..].copy_from_slice(&q[p.len()..]);
 }
 
 // The power of a variable in a product: above 255 it loses 255.
 fn power_sum(a: u8, b: u8) -> u8
     ensures { result ≡ reduce (a + b) }
 {
-    if 255 - a < b { a - (255 - b) } else { a + b }
+    match a.checked_add(b) {
+        Some(sum) => sum,
+        None => a - (255 - b),
+    }
 }

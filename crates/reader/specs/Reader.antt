@@ -1,7 +1,7 @@
 -- "a reader opened on a text hands out one record at a time": what it hands out at each place of a text, and where it
 -- stands then. Assumes nothing.
-use Rattle.std.specs.Prelude.{ℕ, zero, suc, ◌+◌, cond, List, ltb, length, take, drop}
-use Rattle.std.proofs.Math.Option.{Option, none, some}
+use Rattle.std.specs.Prelude.{ℕ, zero, suc, ◌+◌, min, cond, List, length, take, drop}
+use Rattle.std.specs.Prelude.{Option, None as none, Some as some}
 use Rattle.grammar.specs.declared.line.Line.{Line}
 use Rattle.reader.specs.declared.cursor.Cursor.{Cursor}
 use Rattle.reader.specs.declared.cursor.Ahead.{Ahead}
@@ -13,13 +13,9 @@ use Rattle.reader.specs.Cursor.{look_at}
 
 -- ---- places
 
--- the lesser of two numbers
-abbrev pub least : ℕ → ℕ → ℕ
-least a b = cond (ltb a b) a b
-
 -- a place brought within the text: not past its end, and with no more lines before it than bytes
 unfoldable pub placed : List ℕ → ℕ → ℕ → Cursor
-placed s at line = record { at = least at (length s); line = least line (least at (length s)) }
+placed s at line = record { at = min at (length s); line = min line (min at (length s)) }
 
 -- ---- what is handed out
 

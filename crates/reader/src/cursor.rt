@@ -7,15 +7,15 @@ use tokens::bytes;
 use tokens::bytes::LINE_FEED;
 
 // Where the next line starts, and how many lines stand before it.
-#[derive(Clone, Copy)]
+#[derive(Clone, Copy, PartialEq, Eq, Debug)]
 pub struct Cursor {
     pub at: usize,
     pub line: usize,
 }
 
 // The line ahead: one that a line feed ends, with the cursor behind it; one that lacks its line
-// feed; or none.
-#[derive(Clone, Copy)]
+// feed; or none. Three cases, each with its name, are plainer than one Option within another.
+#[derive(Clone, Copy, PartialEq, Eq, Debug)]
 pub enum Ahead {
     Line(Line, Cursor),
     Unended(Line),
@@ -23,6 +23,7 @@ pub enum Ahead {
 }
 
 // Looks at the line ahead of the cursor.
+#[tactic(auto, unfolding(crate::specs::Cursor::line_end, crate::specs::Cursor::look_at))]
 pub fn look(s: &[u8], c: Cursor) -> Ahead
     requires { (c.at ≤ length s.now) × (c.line ≤ c.at) }
     ensures { result ≡ look_at s.now c }

@@ -1,35 +1,35 @@
 // What is handed out at a place of the text, and the place behind it: for any text and any place.
+// A place is two numbers here, as in the theorems (`record_ahead`, specs/Reader.antt): any two, also
+// past the end; a Cursor is what they are brought to.
 ghost use Rattle.std.specs.Prelude.{◌≡◌, ◌<◌, length};
-ghost use Rattle.std.proofs.Math.Option.{some};
-ghost use Rattle.grammar.specs.Line.{Inside};
 ghost use Rattle.reader.specs.Reader as reader;
-ghost use Rattle.reader.specs.Handed.{given_in, HandedIs, LastIs};
+ghost use Rattle.reader.specs.Handed.{RecordIs, LineIs, LastIs, HandedIs};
 
 use crate::cursor::{Ahead, Cursor};
 use crate::{cursor, formed};
-use grammar::line::Line;
+use grammar::line::{Line, TextLine};
+use grammar::record;
 use grammar::record::Rec;
-use grammar::{line, record};
+use tokens::refusal::Refusal;
 use tokens::{bytes, split, word};
 
-// A record with its line, or a refusal's number, each with the place behind the line; or the end.
-// The number of the line is the number of lines before the place behind it.
+// A record with its line, or a refusal, and the place behind the line. The number of the line is
+// the number of lines before that place.
 #[derive(Clone, Copy)]
-pub enum Handed {
-    Record(Line, Rec, Cursor),
-    Refused(u8, Cursor),
-    End,
+pub struct Handed {
+    pub record: Result<(Line, Rec), Refusal>,
+    pub behind: Cursor,
 }
 
-// The record ahead of a place, or its refusal 3, 4, 5 or 13, or the end.
-pub fn hand_out(s: &[u8], at: usize, line: usize) -> Handed
+// The record ahead of a place, or its refusal 3, 4, 5 or 13; none at the end.
+pub fn hand_out(s: &[u8], at: usize, line: usize) -> Option<Handed>
     ensures { HandedIs s.now at line result }
 {
     let p = placed(s, at, line);
     match cursor::look(s, p) {
-        Ahead::Line(l, c) => hand_line(s, l, c),
-        Ahead::Unended(l) => hand_last(s, l, p.line),
-        Ahead::End => Handed::End,
+        Ahead::Line(l, c) => Some(hand_line(TextLine { text: s, line: l }, c)),
+        Ahead::Unended(l) => Some(hand_last(s, l, p.line)),
+        Ahead::End => None,
     }
 }
 
@@ -38,14 +38,10 @@ pub fn behind(s: &[u8], at: usize, line: usize) -> Cursor
     ensures { result ≡ reader.place_behind s.now at line }
 {
     let p = placed(s, at, line);
-    let end = s.len();
     match cursor::look(s, p) {
-        Ahead::Line(l, c) => Cursor {
-            at: c.at,
-            line: c.line,
-        },
-        Ahead::Unended(l) => Cursor {
-            at: end,
+        Ahead::Line(_, c) => c,
+        Ahead::Unended(_) => Cursor {
+            at: s.len(),
             line: p.line + 1,
         },
         Ahead::End => p,
@@ -53,23 +49,31 @@ pub fn behind(s: &[u8], at: usize, line: usize) -> Cursor
 }
 
 // Line l, which its line feed ends; c is behind it.
-pub fn hand_line(s: &[u8], l: Line, c: Cursor) -> Handed
-    requires { Inside s.now l }
-    ensures { given_in s.now result ≡ some (reader.line_given s.now l c) }
+pub fn hand_line(l: TextLine, c: Cursor) -> Handed
+    ensures { LineIs l.entry c result }
 {
-    if bytes::all_allowed(split::part(s, l.from, l.len)) {
-        let f = line::field(s, l, 0);
-        let w = word::word_of(split::part(s, f.at, f.len));
-        let r = record::record(s, l, w);
-        if formed::has_fields(s, l, r) {
-            if formed::nests(s, l, r) {
-                return Handed::Refused(13, c);
-            }
-            return Handed::Record(l, r, c);
-        }
-        return Handed::Refused(5, c);
+    let record = line_record(l);
+    Handed { record, behind: c }
+}
+
+// The record of line l, which its line feed ends, or its refusal 3, 5 or 13.
+fn line_record(l: TextLine) -> Result<(Line, Rec), Refusal>
+    ensures { RecordIs l.entry result }
+{
+    if !bytes::all_allowed(l.bytes()) {
+        return Err(Refusal::StrangeByte);
     }
-    Handed::Refused(3, c)
+    let w = word::word_of(l.piece(0));
+    let Some(r) = record::record(l, w) else {
+        return Err(Refusal::Form);
+    };
+    if !formed::has_fields(l, r) {
+        return Err(Refusal::Form);
+    }
+    if formed::nests(l, r) {
+        return Err(Refusal::TooDeep);
+    }
+    Ok((l.line, r))
 }
 
 // Line l, which lacks its line feed; n lines stand before it.
@@ -77,31 +81,28 @@ pub fn hand_last(s: &[u8], l: Line, n: usize) -> Handed
     requires { n < length s.now }
     ensures { LastIs s.now l n result }
 {
-    let c = Cursor {
-        at: s.len(),
-        line: n + 1,
+    let refusal = if bytes::all_allowed(split::part(s, l.from, l.len)) {
+        Refusal::NoLineFeed
+    } else {
+        Refusal::StrangeByte
     };
-    if bytes::all_allowed(split::part(s, l.from, l.len)) {
-        return Handed::Refused(4, c);
+    Handed {
+        record: Err(refusal),
+        behind: Cursor {
+            at: s.len(),
+            line: n + 1,
+        },
     }
-    Handed::Refused(3, c)
 }
 
 // A place brought within the text.
+#[tactic(auto, unfolding(crate::specs::Reader::placed))]
 pub fn placed(s: &[u8], at: usize, line: usize) -> Cursor
     ensures { result ≡ reader.placed s.now at line }
 {
-    let end = least(at, s.len());
-    let n = least(line, end);
-    Cursor { at: end, line: n }
-}
-
-// The lesser of two numbers.
-pub fn least(a: usize, b: usize) -> usize
-    ensures { result ≡ reader.least a b }
-{
-    if a < b {
-        return a;
+    let end = at.min(s.len());
+    Cursor {
+        at: end,
+        line: line.min(end),
     }
-    b
 }

@@ -25,8 +25,8 @@ pub fn open<'a>(text: &'a [u8]) -> Reader<'a>
     }
 }
 
-// The record ahead of the reader, or its refusal 3, 4, 5 or 13, or the end.
-pub fn next<'a>(r: Reader<'a>) -> Handed
+// The record ahead of the reader, or its refusal 3, 4, 5 or 13; none at the end.
+pub fn next<'a>(r: Reader<'a>) -> Option<Handed>
     ensures { HandedIs r.entry.text.now r.entry.at r.entry.line result }
 {
     handed::hand_out(r.text, r.at, r.line)

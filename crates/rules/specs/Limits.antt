@@ -1,5 +1,5 @@
 -- The limits of a text, each number once. Assumes nothing.
-use Rattle.std.specs.Prelude.{ℕ, ◌+◌, ◌*◌}
+use Rattle.std.specs.Prelude.{ℕ, ◌+◌}
 
 -- the longest text that is read
 abbrev pub most_bytes : ℕ
@@ -36,7 +36,3 @@ masked_from = origin_from + most_names
 -- the most names of the table
 abbrev pub most_entries : ℕ
 most_entries = masked_from + most_names
-
--- the numbers of the table, three for a name
-abbrev pub most_numbers : ℕ
-most_numbers = 3 * most_entries

@@ -1,7 +1,7 @@
 -- Reading a text: the first faulty line from the top, and on it the first fault; or the routine that the text holds.
 -- Assumes nothing.
 use Rattle.std.specs.Prelude.{ℕ, zero, suc, ◌+◌, Bool, not, cond, List, [], ◌∷◌, ltb, eqb, length}
-use Rattle.std.proofs.Math.Option.{Option, none, some}
+use Rattle.std.specs.Prelude.{Option, None as none, Some as some}
 use Rattle.tokens.specs.declared.word.Word.{Word}
 use Rattle.rules.specs.declared.types.Statement.{Statement}
 use Rattle.rules.specs.declared.types.AffineMap.{AffineMap}

@@ -1,13 +1,14 @@
 -- A byte put in for a variable, in place: what a pass over the terms leaves. Assumes nothing.
-use Rattle.std.specs.Prelude.{ℕ, suc, ◌*◌, ◌-◌, ◌≤◌, ◌<◌, ◌≡◌, List, [], ◌∷◌, ◌++◌, Bool, false, eqb, length, get_or, drop}
+use Rattle.std.specs.Prelude.{ℕ, suc, ◌*◌, ◌-◌, ◌≤◌, ◌<◌, ◌≡◌, List, [], ◌∷◌, ◌++◌, Bool, false, length, get_or, drop}
+use Rattle.std.specs.Str.{bytes_eq}
 use Rattle.field.specs.Field.{Modulus, times, power}
 use Rattle.field.specs.Maps.{list_of}
 use Rattle.field.specs.Laws.{Ops, gf}
-use Rattle.poly.specs.Poly.{term, Poly, order}
+use Rattle.poly.specs.Poly.{term, Poly}
 use Rattle.poly.specs.First.{put_slot_raw, put_slot}
 use Rattle.poly.specs.Canon.{Powers, Canon}
 use Rattle.poly.specs.Pass.{gather}
-use Rattle.buffer.specs.Buffer.{read_terms, answer}
+use Rattle.buffer.specs.Buffer.{read_terms}
 use Rattle.buffer.specs.Insert.{Holds}
 
 -- the first i powers are zero
@@ -34,7 +35,7 @@ pub record Put (m : ℕ) (b b' : List ℕ) (k w i a r : ℕ) : Type 0 where
 abbrev pub same_next : ℕ → Poly → Bool
 same_next i [] = false
 same_next i (t ∷ []) = false
-same_next i (term c e ∷ term d f ∷ q) = eqb (answer (order (drop (suc i) e) (drop (suc i) f))) 1
+same_next i (term c e ∷ term d f ∷ q) = bytes_eq (drop (suc i) e) (drop (suc i) f)
 
 -- what is still to be written, with the sum c gathered for the group of the next term
 abbrev pub carry : Ops → ℕ → Poly → Poly

@@ -1,10 +1,11 @@
 // A byte put in for a variable, in place: one pass over the terms, in which neighbours are joined.
-ghost use Rattle.std.specs.Prelude.{◌≡◌, ◌∷◌, suc, ◌+◌, ◌*◌, ◌-◌, ◌<◌, ◌≤◌, length, set, take, drop};
+ghost use Rattle.std.specs.Prelude.{◌≡◌, ◌∷◌, suc, ◌+◌, ◌*◌, ◌-◌, ◌<◌, ◌≤◌};
+ghost use Rattle.std.specs.Prelude.{length, set, take, drop};
 ghost use Rattle.buffer.specs.Buffer.{read_terms};
 ghost use Rattle.buffer.specs.Move.{Written};
 ghost use Rattle.search.specs.Put.{PutAsked, Put, same_next, StepAsked, SteppedBy};
 
-use buffer::term::{compare_powers, move_down};
+use buffer::term::move_down;
 use field::{power_table, times};
 
 // What a pass has written and gathered: how many terms, and the sum of the coefficients of the
@@ -23,18 +24,17 @@ pub(crate) fn put(m: u8, b: &mut [u8], k: usize, w: usize, i: usize, a: u8) -> u
 {
     let table = power_table(m, a);
     let mut g = Pass { terms: 0, sum: 0 };
-    let mut j = 0;
     // the terms written, and what the gathered sum and the terms from j on still give, are the
     // result
-    while j < k {
+    for j in 0..k {
         g = put_step(m, b, k, w, i, &table, j, g);
-        j += 1;
     }
     g.terms
 }
 
 // Term j of k read: its value is gathered, and where its group ends with a sum other than zero the
 // group is written behind the terms written so far. `table` holds the powers of the byte put in.
+// What stays the same over a pass is handed on as it is: a struct of it would have this one reader.
 fn put_step(
     m: u8,
     b: &mut [u8],
@@ -53,16 +53,10 @@ fn put_step(
     let e = b[at + 1 + i] as usize;
     let sum = g.sum ^ times(m, b[at], table[e]);
     if same_group(b, k, w, i, j) {
-        return Pass {
-            terms: g.terms,
-            sum,
-        };
+        return Pass { sum, ..g };
     }
     if sum == 0 {
-        return Pass {
-            terms: g.terms,
-            sum: 0,
-        };
+        return Pass { sum: 0, ..g };
     }
     write_group(b, at, g.terms * w, w, i, sum);
     Pass {
@@ -81,7 +75,7 @@ fn same_group(b: &[u8], k: usize, w: usize, i: usize, j: usize) -> bool
     }
     let at = j * w;
     let next = at + w;
-    compare_powers(&b[at + 2 + i..next], &b[next + 2 + i..next + w]) == 1
+    b[at + 2 + i..next] == b[next + 2 + i..next + w]
 }
 
 // The term at byte `at` written at byte `to`, with the coefficient c and the power 0 of variable i.

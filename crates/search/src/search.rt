@@ -13,12 +13,11 @@ pub fn search(m: u8, b: &mut [u8], k: usize, w: usize, bytes: &mut [u8]) -> usiz
 {
     let mut left = k;
     let mut tried = 0;
-    let mut i = 0;
     // the bytes below i are the first differing ones, and are put in
-    while i + 1 < w {
+    for i in 0..w - 1 {
         let mut a: u8 = 0;
-        // no byte below a leaves a term
-        let found = loop {
+        // no byte below a leaves a term; the rules ask for a loop that yields the byte by break
+        bytes[i] = loop {
             tried += 1;
             let r = put(m, b, left, w, i, a);
             if 0 < r {
@@ -27,8 +26,6 @@ pub fn search(m: u8, b: &mut [u8], k: usize, w: usize, bytes: &mut [u8]) -> usiz
             }
             a += 1;
         };
-        bytes[i] = found;
-        i += 1;
     }
     tried
 }

@@ -1,17 +1,15 @@
 -- Both blocks of a routine walked, and what stands in the first work buffer when no place was over the limit.
 -- Assumes nothing.
-use Rattle.std.specs.Prelude.{◌≡◌, ℕ, ◌+◌, ◌*◌, ◌≤◌, true, false, cond, List, ltb, length, take}
-use Rattle.std.proofs.Math.Option.{none, some}
+use Rattle.std.specs.Prelude.{◌≡◌, ℕ, ◌+◌, ◌*◌, ◌≤◌, cond, Result, Ok, Err, List, ltb, length, take}
+use Rattle.std.specs.Prelude.{None as none, Some as some}
 use Rattle.text.specs.declared.routine.Routine as code
 use Rattle.rules.specs.Limits.{most_variables}
-use Rattle.text.specs.Routine.{maps_of, routine_of, Counted}
-use Rattle.rules.specs.Formed.{Formed}
-use Rattle.rules.specs.Ranged.{Ranged}
+use Rattle.text.specs.Routine.{maps_of, routine_of}
+use Rattle.text.specs.Ready.{Ready}
 use Rattle.verdict.specs.Instances.{symbolic}
 use Rattle.verdict.specs.Count.{last_step, unknown_line}
 use Rattle.values.specs.declared.shelf.Shelf.{Shelf}
 use Rattle.values.specs.declared.source.Scope.{Scope}
-use Rattle.survey.specs.declared.walk.Walk.{Walk}
 use Rattle.values.specs.Shelf.{Sound, bare}
 use Rattle.values.specs.Source.{reach}
 use Rattle.values.specs.Raw.{most_standing, Tabled}
@@ -33,12 +31,6 @@ origin_scope r = record { begins = r.inputs; width = r.shares; base = 0; drawn =
 abbrev pub masked_scope : code.Routine → Scope
 masked_scope r = record { begins = r.inputs * r.shares; width = 1; base = r.origin; drawn = r.variables }
 
--- what reading gives of the routine of an accepted text
-pub record Ready (r : code.Routine) : Type 0 where
-  pub counted : Counted r
-  pub formed : Formed (routine_of r)
-  pub ranged : Ranged (routine_of r)
-
 -- two work buffers of one length, with room for the most terms of the most variables
 pub record Lent (left right : List ℕ) : Type 0 where
   pub room : most_standing * (most_variables + 1) ≤ length left
@@ -57,12 +49,12 @@ pub record Begun (r : code.Routine) (d : Shelf) : Type 0 where
   pub top : d.top ≤ most_standing
 
 -- the outcome of the walk over the origin block
-abbrev pub OriginWalked : code.Routine → List ℕ → List ℕ → Walk → Type 0
+abbrev pub OriginWalked : code.Routine → List ℕ → List ℕ → Result Shelf ℕ → Type 0
 OriginWalked r left left' q =
     Walked modulus (maps_of r) r.statements 0 r.origin (origin_scope r) bare left (term_bytes r) most_standing left' q
 
 -- the outcome of the walk over the masked block, above the values of the directory d
-abbrev pub MaskedWalked : code.Routine → Shelf → List ℕ → List ℕ → Walk → Type 0
+abbrev pub MaskedWalked : code.Routine → Shelf → List ℕ → List ℕ → Result Shelf ℕ → Type 0
 MaskedWalked r d left left' q =
     Walked modulus (maps_of r) r.statements r.origin (r.origin + r.masked) (masked_scope r) d left
     (term_bytes r) most_standing left' q
@@ -83,6 +75,6 @@ pub record Standing (r : code.Routine) (left : List ℕ) (d : Shelf) : Type 0 wh
       ≡ cond (ltb most_standing (d.top + (last_step (routine_of r) (symbolic (routine_of r))).raw)) (some r.line) none
 
 -- the whole outcome of both walks: the line at which the routine is given up, or all values
-pub record Surveyed (r : code.Routine) (left : List ℕ) (q : Walk) : Type 0 where
-  pub given : q.over ≡ true → unknown_line (routine_of r) (symbolic (routine_of r)) ≡ some q.line
-  pub stands : q.over ≡ false → Standing r left q.shelf
+pub record Surveyed (r : code.Routine) (left : List ℕ) (q : Result Shelf ℕ) : Type 0 where
+  pub given : (line : ℕ) → q ≡ Err line → unknown_line (routine_of r) (symbolic (routine_of r)) ≡ some line
+  pub stands : (d : Shelf) → q ≡ Ok d → Standing r left d

@@ -1,7 +1,7 @@
 -- A block walked statement by statement: where it goes over the limit, and what stands in the first work buffer.
 -- Assumes nothing.
-use Rattle.std.specs.Prelude.{◌≡◌, ℕ, ◌+◌, ◌*◌, ◌-◌, ◌≤◌, ◌<◌, Bool, true, false, cond, List, [], ◌∷◌, ◌++◌, ltb, length, take, drop, get_or}
-use Rattle.std.proofs.Math.Option.{Option, none, some}
+use Rattle.std.specs.Prelude.{◌≡◌, ℕ, ◌+◌, ◌*◌, ◌-◌, ◌≤◌, ◌<◌, cond, Result, Ok, Err, List, [], ◌∷◌, ◌++◌, ltb, length, take, drop, get_or}
+use Rattle.std.specs.Prelude.{Option, None as none, Some as some}
 use Rattle.poly.specs.Poly.{Poly}
 use Rattle.rules.specs.declared.types.Operand.TheVariants.{Place}
 use Rattle.rules.specs.declared.types.Op.TheVariants.{Set}
@@ -11,10 +11,9 @@ use Rattle.verdict.specs.Meaning.{given, values}
 use Rattle.verdict.specs.Instances.{polynomials}
 use Rattle.values.specs.declared.shelf.Shelf.{Shelf}
 use Rattle.values.specs.declared.source.Scope.{Scope}
-use Rattle.survey.specs.declared.walk.Walk.{Walk}
 use Rattle.values.specs.Shelf.{stored, Sound}
 use Rattle.values.specs.Source.{variables_of, reach}
-use Rattle.values.specs.Raw.{most_standing, raw_in, Tabled, Inside, SizeAsked}
+use Rattle.values.specs.Raw.{most_standing, raw_in, Tabled, Inside}
 use Rattle.values.specs.Value.{Workable}
 
 -- the line of the first statement at which what stands and the raw size exceed the limit; vs are the values so far, xs
@@ -42,16 +41,15 @@ blank = record { op = Set (Place 0); line = 0 }
 abbrev pub part : List Statement → ℕ → ℕ → List Statement
 part statements i to = take (to - i) (drop i statements)
 
--- a line, or none
-abbrev pub line_if : Bool → ℕ → Option ℕ
-line_if true line = some line
-line_if false line = none
+-- the line at which a walk was given up, or none
+abbrev pub line_of : Result Shelf ℕ → Option ℕ
+line_of (Ok d) = none
+line_of (Err line) = some line
 
 -- what a walk over the statements from..to asks
 pub record WalkAsked (m : ℕ) (lists : List (List ℕ)) (constants : List ℕ) (maps : List AffineMap)
     (statements : List Statement) (from to : ℕ)
     (s : Scope) (d : Shelf) (left right : List ℕ) (w most : ℕ) : Type 0 where
-  pub sized : SizeAsked s d
   pub work : Workable m left right w
   pub wide : s.begins * s.width < w
   pub drawn : s.drawn < w
@@ -85,7 +83,7 @@ pub record Holds (m : ℕ) (maps : List AffineMap) (statements : List Statement)
 -- the whole outcome of a walk: the line at which it was given up, or all values
 pub record Walked (m : ℕ) (maps : List AffineMap) (statements : List Statement) (from to : ℕ) (s : Scope) (d₀ : Shelf)
     (left₀ : List ℕ) (w most : ℕ)
-    (left : List ℕ) (r : Walk) : Type 0 where
-  pub decided : line_if r.over r.line
+    (left : List ℕ) (r : Result Shelf ℕ) : Type 0 where
+  pub decided : line_of r
       ≡ over_in most m (w - 1) maps (variables_of (w - 1) s) (reach w left₀ d₀ s) d₀.top (part statements from to)
-  pub finished : r.over ≡ false → Holds m maps statements from to s d₀ left₀ w most to left r.shelf
+  pub finished : (d : Shelf) → r ≡ Ok d → Holds m maps statements from to s d₀ left₀ w most to left d

@@ -1,98 +1,69 @@
 // Both blocks walked, the origin block first: the values of all statements, or the line at which
 // the count exceeds the limit.
 ghost use Rattle.std.specs.Prelude.{◌≡◌};
-ghost use Rattle.text.specs.Routine.{Counted};
-ghost use Rattle.survey.specs.Survey.{origin_scope, masked_scope, Ready, Lent, BlockAsked};
-ghost use Rattle.survey.specs.Survey.{Begun, OriginWalked, MaskedWalked, Surveyed};
+ghost use Rattle.survey.specs.Survey.{origin_scope, masked_scope, Lent, Surveyed};
 
-use crate::table::{list_constants, list_maps};
-use crate::walk::{Walk, walk_block};
-use text::routine::Routine;
-use values::shelf::{Shelf, empty};
+use crate::table::list_maps;
+use crate::walk::walk_block;
+use text::accepted::Accepted;
+use values::shelf::Shelf;
 use values::source::Scope;
-
-// The low byte of the modulus.
-pub const MODULUS: u8 = 27;
+use values::view::View;
+use verdict::MODULUS;
 
 // The most terms that may stand.
 pub const MOST_TERMS: usize = 3840;
 
 // The origin block begins with the inputs, each the sum of its shares; it draws nothing.
-pub fn origin_scope(r: Routine) -> Scope
-    ensures { result ≡ origin_scope r }
+pub fn origin_scope(r: Accepted) -> Scope
+    ensures { result ≡ origin_scope r.routine }
 {
     Scope {
-        begins: r.inputs,
-        width: r.shares,
+        begins: r.routine.inputs,
+        width: r.routine.shares,
         base: 0,
         drawn: 0,
     }
 }
 
 // The masked block begins with the shares of all inputs, and may draw every variable.
-pub fn masked_scope(r: Routine) -> Scope
-    requires { Counted r }
-    ensures { result ≡ masked_scope r }
+pub fn masked_scope(r: Accepted) -> Scope
+    ensures { result ≡ masked_scope r.routine }
 {
     Scope {
-        begins: r.inputs * r.shares,
+        begins: r.routine.inputs * r.routine.shares,
         width: 1,
-        base: r.origin,
-        drawn: r.variables,
+        base: r.routine.origin,
+        drawn: r.routine.variables,
     }
 }
 
-// Walks the origin block.
-fn walk_origin(
-    lists: [[u8; 8]; 8],
-    constants: [u8; 8],
-    r: Routine,
-    left: &mut [u8],
-    right: &mut [u8],
-) -> Walk
-    requires { BlockAsked r lists constants left.old right.old }
-    ensures { OriginWalked r left.old left.new result }
+// Walks both blocks, the masked one above the values of the origin block: the directory of all
+// values, or the line at which the count exceeds the limit.
+pub fn survey(r: Accepted, left: &mut [u8], right: &mut [u8]) -> Result<Shelf, usize>
+    requires { Lent left.old right.old }
+    ensures { Surveyed r.routine left.new result }
 {
-    let s = origin_scope(r);
-    let d = empty();
-    let w = r.variables + 1;
-    walk_block(
-        MODULUS, lists, constants, r, 0, r.origin, s, d, left, right, w, MOST_TERMS,
-    )
-}
-
-// Walks the masked block, above the values of the origin block.
-fn walk_masked(
-    lists: [[u8; 8]; 8],
-    constants: [u8; 8],
-    r: Routine,
-    d: Shelf,
-    left: &mut [u8],
-    right: &mut [u8],
-) -> Walk
-    requires { BlockAsked r lists constants left.old right.old × Begun r d }
-    ensures { MaskedWalked r d left.old left.new result }
-{
-    let s = masked_scope(r);
-    let to = r.origin + r.masked;
-    let w = r.variables + 1;
-    walk_block(
-        MODULUS, lists, constants, r, r.origin, to, s, d, left, right, w, MOST_TERMS,
-    )
-}
-
-// Walks both blocks.
-pub fn survey(r: Routine, left: &mut [u8], right: &mut [u8]) -> Walk
-    requires { Ready r × Lent left.old right.old }
-    ensures { Surveyed r left.new result }
-{
-    let maps = r.maps;
-    let lists = list_maps(MODULUS, maps, r.mapped);
-    let constants = list_constants(maps, r.mapped);
-    let first = walk_origin(lists, constants, r, left, right);
-    if first.over {
-        return first;
-    }
-    let d = first.shelf;
-    walk_masked(lists, constants, r, d, left, right)
+    let routine = r.routine;
+    let t = list_maps(MODULUS, &routine.maps[..routine.mapped]);
+    let w = routine.variables + 1;
+    let scope = origin_scope(r);
+    let shelf = Shelf::empty();
+    let d = walk_block(
+        MODULUS,
+        t,
+        routine,
+        0,
+        routine.origin,
+        View { scope, shelf },
+        left,
+        right,
+        w,
+        MOST_TERMS,
+    )?;
+    let scope = masked_scope(r);
+    let v = View { scope, shelf: d };
+    let from = routine.origin;
+    let to = from + routine.masked;
+    walk_block(MODULUS, t, routine, from, to, v, left, right, w, MOST_TERMS)
 }

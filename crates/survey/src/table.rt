@@ -1,51 +1,24 @@
-// The maps' coefficients and constants as tables, and buffers cleared.
-ghost use Rattle.std.specs.Prelude.{◌≡◌, ◌≤◌, take, length, replicate};
+// The maps' coefficients and constants as tables.
+ghost use Rattle.std.specs.Prelude.{◌≤◌, length};
 ghost use Rattle.survey.specs.Table.{Listed, Constants};
 
 use rules::types::AffineMap;
+use values::tables::Tables;
 
-// The eight coefficients of each of eight maps; past the last map they are 0.
-pub(crate) fn list_maps(m: u8, maps: [AffineMap; 8], count: usize) -> [[u8; 8]; 8]
-    requires { count ≤ 8 }
-    ensures { Listed m (take count maps) result 8 }
+// The coefficients and the constant of each map; past the last they are 0.
+pub(crate) fn list_maps(m: u8, maps: &[AffineMap]) -> Tables
+    requires { length maps.now ≤ 8 }
+    ensures lists { Listed m maps.now result.lists 8 }
+    ensures constants { Constants maps.now result.constants 8 }
 {
-    let mut lists = [[0u8; 8]; 8];
-    let mut f = 0;
+    let mut t = Tables {
+        lists: [[0; 8]; 8],
+        constants: [0; 8],
+    };
     // the first f maps are listed, and behind them stands 0
-    while f < count {
-        let map = maps[f];
-        let columns = map.columns;
-        let row = field::coefficients(m, columns);
-        lists[f] = row;
-        f += 1;
+    for (f, map) in maps.iter().enumerate() {
+        t.lists[f] = field::coefficients(m, map.columns);
+        t.constants[f] = map.constant;
     }
-    lists
-}
-
-// The constant of each of eight maps; past the last map it is 0.
-pub(crate) fn list_constants(maps: [AffineMap; 8], count: usize) -> [u8; 8]
-    requires { count ≤ 8 }
-    ensures { Constants (take count maps) result 8 }
-{
-    let mut constants = [0u8; 8];
-    let mut f = 0;
-    // the first f maps are listed, and behind them stands 0
-    while f < count {
-        let map = maps[f];
-        constants[f] = map.constant;
-        f += 1;
-    }
-    constants
-}
-
-// Every byte becomes 0.
-pub fn clear(b: &mut [u8])
-    ensures { b.new ≡ replicate (length b.old) 0 }
-{
-    let mut i = 0;
-    // the bytes below i are 0
-    while i < b.len() {
-        b[i] = 0;
-        i += 1;
-    }
+    t
 }

@@ -1,70 +1,46 @@
 // A block of statements walked from the top: each value is formed above the others, unless what
 // stands and the raw size exceed the limit.
-ghost use Rattle.std.specs.Prelude.{◌≡◌};
 ghost use Rattle.text.specs.Routine.{maps_of};
 ghost use Rattle.survey.specs.Walk.{WalkAsked, Walked};
 
 use text::routine::Routine;
-use values::found::find;
 use values::raw::raw_size;
 use values::shelf::Shelf;
-use values::source::Scope;
+use values::tables::Tables;
 use values::value::form_value;
+use values::view::View;
 
-// Whether the limit was exceeded, with the line; and the directory of the values that stand.
-#[derive(Clone, Copy)]
-pub struct Walk {
-    pub over: bool,
-    pub line: usize,
-    pub shelf: Shelf,
-}
-
-// Walks the statements from..to; stops at the first at which what stands and the raw size exceed
-// `most` terms.
+// Walks the statements from..to: the directory of the values that stand, or the line of the first
+// statement at which what stands and the raw size exceed `most` terms.
+// Its parameters stay apart: buffers lent anew for each block, and numbers that it alone reads.
 pub(crate) fn walk_block(
     m: u8,
-    lists: [[u8; 8]; 8],
-    constants: [u8; 8],
+    t: Tables,
     r: Routine,
     from: usize,
     to: usize,
-    s: Scope,
-    d: Shelf,
+    v: View,
     left: &mut [u8],
     right: &mut [u8],
     w: usize,
     most: usize,
-) -> Walk
-    requires { WalkAsked m lists constants (maps_of r) r.statements from to s d
+) -> Result<Shelf, usize>
+    requires { WalkAsked m t.lists t.constants (maps_of r) r.statements from to v.scope v.shelf
         left.old right.old w most }
-    ensures { Walked m (maps_of r) r.statements from to s d
+    ensures { Walked m (maps_of r) r.statements from to v.scope v.shelf
         left.old w most left.new result }
 {
-    let mut shelf = d;
-    let mut i = from;
-    // the statements from..i are walked
-    while i < to {
-        let statement = r.statements[i];
-        let op = statement.op;
-        let found = find(s, shelf, op);
-        let raw = raw_size(lists, constants, found);
+    let scope = v.scope;
+    let mut shelf = v.shelf;
+    // the statements before this one are walked
+    for statement in &r.statements[from..to] {
+        let found = View { scope, shelf }.find(statement.op);
+        let raw = raw_size(t, found);
         if most - shelf.top < raw {
-            return ended(true, statement.line, shelf);
+            return Err(statement.line);
         }
-        let k = form_value(m, lists, constants, found, left, shelf.top, right, w);
-        let at = shelf.count;
-        shelf.starts[at] = shelf.top as u16;
-        shelf.sizes[at] = k as u16;
-        shelf.count = at + 1;
-        shelf.top += k;
-        i += 1;
+        let k = form_value(m, t, found, left, shelf.top, right, w);
+        shelf.put(k);
     }
-    ended(false, 0, shelf)
-}
-
-// A walk that ended so.
-fn ended(over: bool, line: usize, shelf: Shelf) -> Walk
-    ensures { result ≡ record { over = over; line = line; shelf = shelf } }
-{
-    Walk { over, line, shelf }
+    Ok(shelf)
 }

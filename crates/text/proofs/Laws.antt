@@ -1,6 +1,5 @@
 pub mod Lines
 pub mod Stored
-pub mod Held
 pub mod Walk
 pub mod From
 pub mod Given

@@ -8,8 +8,7 @@ use Rattle.reader.specs.Reader.{placed}
 use Rattle.rules.specs.Limits.{most_bytes}
 use Rattle.rules.specs.State.{start}
 use Rattle.rules.specs.Read.{Reading, refused, take_lines}
-use Rattle.text.specs.Reading.{ReadingIs}
-use Rattle.text.specs.declared.read.Reading as answer
+use Rattle.text.specs.Reading.{Answer, ReadingIs}
 
 -- what the lines from a place on give, the place brought within the text
 abbrev pub lines_from : List ℕ → ℕ → ℕ → Reading
@@ -21,7 +20,7 @@ unfoldable pub read_from : List ℕ → ℕ → ℕ → Reading
 read_from s at line = cond (ltb most_bytes (length s)) (refused 2 0) (lines_from s at line)
 
 -- the whole outcome of reading on from a reader
-abbrev pub ReadsOn : Reader → answer.Reading → Type 0
+abbrev pub ReadsOn : Reader → Answer → Type 0
 ReadsOn r d = ReadingIs d (read_from r.text.now r.at r.line)
 
 -- the cursor stands in a text that is not too long
@@ -29,5 +28,5 @@ abbrev pub Stands : List ℕ → Cursor → Type 0
 Stands s c = (c.at ≤ length s) × (c.line ≤ c.at) × (length s ≤ most_bytes)
 
 -- the whole outcome of reading the lines from a cursor on
-abbrev pub LinesAre : List ℕ → Cursor → answer.Reading → Type 0
+abbrev pub LinesAre : List ℕ → Cursor → Answer → Type 0
 LinesAre s c r = ReadingIs r (take_lines start c.line (pieces line_feed (drop c.at s)))

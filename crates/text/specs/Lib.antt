@@ -1,3 +1,4 @@
 pub mod Routine
+pub mod Ready
 pub mod Reading
 pub mod From

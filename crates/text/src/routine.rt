@@ -6,7 +6,8 @@ use rules::limits::{MOST_MAPS, MOST_STATEMENTS};
 use rules::types::{AffineMap, Op, Operand, Statement};
 use tokens::limits::{COLUMNS, MOST_SHARES};
 
-// The statements of the origin block stand first, those of the masked block behind them.
+// The statements of the origin block stand first, those of the masked block behind them. There is
+// no heap, so the arrays have room for the most, and their lengths stand beside them.
 #[derive(Clone, Copy)]
 pub struct Routine {
     pub shares: usize,
@@ -24,6 +25,7 @@ pub struct Routine {
 }
 
 // The routine of a text of which nothing is read yet.
+#[tactic(auto, unfolding(crate::specs::Routine::nothing))]
 pub(crate) fn empty() -> Routine
     ensures { result ≡ nothing }
 {

@@ -2,10 +2,9 @@
 ghost use Rattle.std.specs.Prelude.{◌≡◌};
 ghost use Rattle.tokens.specs.Word.{word_of};
 
-use crate::split;
-
-// The word that a record begins with; Unknown stands for every other.
-#[derive(Clone, Copy)]
+// The word that a record begins with; Unknown stands for every other: the definitions and theorems
+// of crate rules treat it as a word like any other.
+#[derive(Clone, Copy, PartialEq, Eq, Debug)]
 pub enum Word {
     Shares,
     Map,
@@ -23,28 +22,29 @@ pub enum Word {
     Unknown,
 }
 
-// The word of a record: the one at the number that the bytes have among the spellings. The most
-// frequent come first.
+// The words of records, each beside its spelling. The most frequent come first.
+const WORDS: [(&[u8], Word); 13] = [
+    (b"xor", Word::Xor),
+    (b"mul", Word::Mul),
+    (b"set", Word::Set),
+    (b"let", Word::Let),
+    (b"app", Word::App),
+    (b"rand", Word::Rand),
+    (b"shares", Word::Shares),
+    (b"map", Word::Map),
+    (b"input", Word::Input),
+    (b"origin", Word::Origin),
+    (b"result", Word::Result),
+    (b"masked", Word::Masked),
+    (b"output", Word::Output),
+];
+
+// The word that the bytes spell.
 pub fn word_of(f: &[u8]) -> Word
     ensures { result ≡ word_of f.now }
 {
-    let spelt = b"xor mul set let app rand shares map input origin result masked output";
-    let words = [
-        Word::Xor,
-        Word::Mul,
-        Word::Set,
-        Word::Let,
-        Word::App,
-        Word::Rand,
-        Word::Shares,
-        Word::Map,
-        Word::Input,
-        Word::Origin,
-        Word::Result,
-        Word::Masked,
-        Word::Output,
-        Word::Unknown,
-    ];
-    let k = split::piece_of(spelt, b' ', f);
-    words[k]
+    match WORDS.iter().find(|w| f == w.0) {
+        Some(w) => w.1,
+        None => Word::Unknown,
+    }
 }

@@ -2,7 +2,7 @@
 -- values of a block are named q0, q1, .., passing over every name that the block's set holds anywhere in the text.
 -- Assumes nothing.
 use Rattle.std.specs.Prelude.{ℕ, zero, suc, ◌+◌, ◌-◌, Bool, cond, List, [], ◌∷◌, ◌++◌, eqb, length, take, drop, get_or}
-use Rattle.std.proofs.Math.Option.{Option, none, some}
+use Rattle.std.specs.Prelude.{Option, None as none, Some as some}
 use Rattle.tokens.specs.Ascii.{tab, line_feed}
 use Rattle.tokens.specs.Split.{pieces}
 use Rattle.tokens.specs.Word.{word_of}

@@ -12,7 +12,7 @@ use Rattle.verdict.specs.Instances.{polynomials}
 use Rattle.verdict.specs.Count.{apply_size}
 use Rattle.values.specs.declared.shelf.Shelf.{Shelf}
 use Rattle.values.specs.declared.source.Scope.{Scope}
-use Rattle.values.specs.Source.{reach, Narrow}
+use Rattle.values.specs.Source.{reach}
 
 -- the most terms that stand
 abbrev pub most_standing : ℕ
@@ -38,11 +38,6 @@ Inside drawn (Xor a b) = Unit {0}
 Inside drawn (Mul a b) = Unit {0}
 Inside drawn (App f a) = f < 8
 Inside drawn (Rand v) = v < drawn
-
--- what sizes ask: places can be found, and not too many terms stand
-pub record SizeAsked (s : Scope) (d : Shelf) : Type 0 where
-  pub narrow : Narrow s d
-  pub most : d.top ≤ most_standing
 
 -- the number of terms of an operand, in every buffer with this directory
 pub record OperandSized (s : Scope) (d : Shelf) (a : Operand) (k : ℕ) : Type 0 where

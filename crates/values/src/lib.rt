@@ -7,4 +7,6 @@ pub mod load;
 pub mod raw;
 pub mod shelf;
 pub mod source;
+pub mod tables;
 pub mod value;
+pub mod view;

@@ -1,4 +1,5 @@
-// Polynomials laid in a work buffer as terms of w bytes; places are counted in terms.
+// Polynomials laid in a work buffer as terms of w bytes; places are counted in terms. What is asked
+// relates a lent buffer, a place and the size of this very polynomial, so each contract says it.
 ghost use Rattle.std.specs.Prelude.{◌+◌, ◌*◌, ◌-◌, ◌<◌, ◌≤◌, length};
 ghost use Rattle.poly.specs.Poly.{constant, variable, units};
 ghost use Rattle.poly.specs.Size.{one_if};
@@ -41,11 +42,9 @@ pub(crate) fn lay_variables(b: &mut [u8], at: usize, i: usize, k: usize, w: usiz
     requires { (i + k < w) × LayAsked b.old at k w }
     ensures { Laid w b.old b.new at k (units (w - 1) i k) }
 {
-    let mut j = 0;
     // the first j of them are laid
-    while j < k {
+    for j in 0..k {
         lay_variable(b, at + j, i + j, w);
-        j += 1;
     }
 }
 

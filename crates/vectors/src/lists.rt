@@ -1,16 +1,26 @@
 // The lent buffers: at their least lengths, one below and one above, and what is left in them.
-ghost use Rattle.std.specs.Prelude.{◌≤◌};
-
 use crate::show::{end_line, print_number, print_small, print_word};
+use crate::stored::Case;
+use arrayvec::ArrayVec;
 use judge::judge_with;
 use std::io::Write;
 use verdict::report::Trials;
 use verdict::trials::default_trials;
 
-// The lengths at which judge takes its buffers.
-const WORK: usize = 65280;
+// The lengths of the lent buffers: at most 65281, 65281 and 17 bytes are lent.
+#[derive(Clone, Copy)]
+struct Lengths {
+    left: usize,
+    right: usize,
+    list: usize,
+}
 
-const LIST: usize = 16;
+// The lengths at which judge takes its buffers.
+const LEAST: Lengths = Lengths {
+    left: 65280,
+    right: 65280,
+    list: 16,
+};
 
 // More trials than may be asked for.
 const TOO_MANY: Trials = Trials {
@@ -24,77 +34,66 @@ const BEFORE: u8 = 0xff;
 // Prints the answers for a text, with each buffer at its least length, and one below; and so with
 // too many trials.
 pub(crate) fn print_lists(output: &mut impl Write, text: &[u8]) {
-    let t = default_trials();
-    print_judged(output, b"least", text, t, WORK, WORK, LIST);
-    print_judged(output, b"short_list", text, t, WORK, WORK, LIST - 1);
-    print_judged(output, b"short_left", text, t, WORK - 1, WORK, LIST);
-    print_judged(output, b"short_right", text, t, WORK, WORK - 1, LIST);
-    print_judged(output, b"many", text, TOO_MANY, WORK, WORK, LIST);
-    print_judged(output, b"many_short", text, TOO_MANY, WORK, WORK, LIST - 1);
+    let trials = default_trials();
+    let least = |name| Case { name, text, trials };
+    let many = |name| Case {
+        name,
+        text,
+        trials: TOO_MANY,
+    };
+    let short_list = Lengths { list: 15, ..LEAST };
+    let short_left = Lengths {
+        left: 65279,
+        ..LEAST
+    };
+    let short_right = Lengths {
+        right: 65279,
+        ..LEAST
+    };
+    print_judged(output, least(b"least"), LEAST);
+    print_judged(output, least(b"short_list"), short_list);
+    print_judged(output, least(b"short_left"), short_left);
+    print_judged(output, least(b"short_right"), short_right);
+    print_judged(output, many(b"many"), LEAST);
+    print_judged(output, many(b"many_short"), short_list);
 }
 
 // Prints what a text leaves of each buffer, one byte longer than asked.
-pub(crate) fn print_kept(output: &mut impl Write, name: &[u8], text: &[u8], t: Trials) {
-    print_judged(output, name, text, t, WORK + 1, WORK + 1, LIST + 1);
+pub(crate) fn print_kept(output: &mut impl Write, case: Case<'_>) {
+    let long = Lengths {
+        left: 65281,
+        right: 65281,
+        list: 17,
+    };
+    print_judged(output, case, long);
 }
 
 // Judges a text in buffers of these lengths and prints the refusal's number, and how many bytes of
 // each buffer are as they were.
-fn print_judged(
-    output: &mut impl Write,
-    name: &[u8],
-    text: &[u8],
-    t: Trials,
-    left: usize,
-    right: usize,
-    list: usize,
-) {
-    let mut lefts = [BEFORE; 65281];
-    let mut rights = [BEFORE; 65281];
-    let mut bytes = [BEFORE; 17];
-    if 65281 < left || 65281 < right || 17 < list {
-        return;
-    }
+fn print_judged(output: &mut impl Write, case: Case<'_>, lengths: Lengths) {
+    let mut left = ArrayVec::from([BEFORE; 65281]);
+    let mut right = ArrayVec::from([BEFORE; 65281]);
+    let mut list = ArrayVec::from([BEFORE; 17]);
+    left.truncate(lengths.left);
+    right.truncate(lengths.right);
+    list.truncate(lengths.list);
     let report = judge_with(
-        text,
-        t,
-        &mut lefts[0..left],
-        &mut rights[0..right],
-        &mut bytes[0..list],
+        case.text,
+        case.trials,
+        left.as_mut_slice(),
+        right.as_mut_slice(),
+        list.as_mut_slice(),
     );
-    print_word(output, name);
+    print_word(output, case.name);
     print_word(output, b"_kept");
     print_small(output, report.refusal);
-    print_number(output, unchanged_work(&lefts, left));
-    print_number(output, unchanged_work(&rights, right));
-    print_number(output, unchanged_list(&bytes, list));
+    print_number(output, unchanged(left.as_slice()));
+    print_number(output, unchanged(right.as_slice()));
+    print_number(output, unchanged(list.as_slice()));
     end_line(output);
 }
 
-// How many of the first `count` bytes of a work buffer are as they were.
-fn unchanged_work(b: &[u8; 65281], count: usize) -> usize {
-    unchanged(b, count)
-}
-
-// How many of the first `count` bytes of a byte list are as they were.
-fn unchanged_list(b: &[u8; 17], count: usize) -> usize {
-    unchanged(b, count)
-}
-
-// How many of the first `count` bytes are as they were.
-fn unchanged(b: &[u8], count: usize) -> usize {
-    let mut n: usize = 0;
-    let mut i = 0;
-    while i < b.len() && i < count {
-        n += one_if_unchanged(b[i]);
-        i += 1;
-    }
-    n
-}
-
-// 1 for a byte that is as it was, else 0.
-fn one_if_unchanged(byte: u8) -> usize
-    ensures { result ≤ 1 }
-{
-    if byte == BEFORE { 1 } else { 0 }
+// How many bytes of a buffer are as they were.
+fn unchanged(buffer: &[u8]) -> usize {
+    buffer.iter().filter(|byte| **byte == BEFORE).count()
 }

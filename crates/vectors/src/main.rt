@@ -6,7 +6,6 @@ mod cases;
 mod lists;
 mod records;
 mod runs;
-mod sbox;
 mod show;
 mod stored;
 mod tables;

@@ -2,8 +2,9 @@
 use crate::show::{end_line, print_number, print_small, print_word};
 use grammar::line::Line;
 use reader::cursor::Cursor;
-use reader::handed::{Handed, behind, hand_out};
+use reader::handed::{behind, hand_out};
 use std::io::Write;
+use tokens::refusal::Refusal;
 
 // More records than each of the texts has.
 const ENOUGH: usize = 40;
@@ -13,22 +14,23 @@ const ENOUGH: usize = 40;
 pub(crate) fn print_records(output: &mut impl Write, text: &[u8]) {
     let mut at = 0;
     let mut line = 0;
-    let mut i: usize = 0;
-    while i < ENOUGH {
+    for _ in 0..ENOUGH {
         print_at(output, text, at, line);
         let place = behind(text, at, line);
         at = place.at;
         line = place.line;
-        i += 1;
     }
 }
 
 // Prints what is handed out at a place.
 fn print_at(output: &mut impl Write, text: &[u8], at: usize, line: usize) {
-    match hand_out(text, at, line) {
-        Handed::Record(l, r, c) => print_record(output, l, c),
-        Handed::Refused(e, c) => print_refused(output, e, c),
-        Handed::End => print_word(output, b"end\n"),
+    let Some(handed) = hand_out(text, at, line) else {
+        print_word(output, b"end\n");
+        return;
+    };
+    match handed.record {
+        Ok((l, _)) => print_record(output, l, handed.behind),
+        Err(e) => print_refused(output, e, handed.behind),
     }
 }
 
@@ -42,9 +44,9 @@ fn print_record(output: &mut impl Write, l: Line, c: Cursor) {
 }
 
 // Prints the number of a refused line, and its refusal's.
-fn print_refused(output: &mut impl Write, e: u8, c: Cursor) {
+fn print_refused(output: &mut impl Write, e: Refusal, c: Cursor) {
     print_word(output, b"refused");
     print_number(output, c.line);
-    print_small(output, e);
+    print_small(output, e.number());
     end_line(output);
 }

@@ -1,7 +1,6 @@
 // Each stored text run on bytes, one for each of its variables, and coefficients of lists of bytes.
-ghost use Rattle.std.specs.Prelude.{◌≤◌};
-
 use crate::show::{end_line, print_byte, print_bytes, print_number, print_small, print_word};
+use crate::stored::Case;
 use std::io::Write;
 use verdict::coefficients::coefficients;
 use verdict::run::run;
@@ -15,11 +14,9 @@ const BYTES: [u8; 16] = [
 const MAP: [u8; 10] = [0x63, 0x1f, 0x3e, 0x7c, 0xf8, 0xf1, 0xe3, 0xc7, 0x8f, 0x00];
 
 // Prints a text's name and what run answers: number, line, the original's result, the joined one.
-pub(crate) fn print_run(output: &mut impl Write, name: &[u8], text: &[u8]) {
-    let bytes = BYTES;
-    let n = taken(text);
-    let answer = run(text, &bytes[0..n]);
-    print_word(output, name);
+pub(crate) fn print_run(output: &mut impl Write, case: Case<'_>) {
+    let answer = run(case.text, taken(case.text));
+    print_word(output, case.name);
     print_word(output, b"_run");
     print_small(output, answer.refusal);
     print_number(output, answer.line);
@@ -28,39 +25,25 @@ pub(crate) fn print_run(output: &mut impl Write, name: &[u8], text: &[u8]) {
     end_line(output);
 }
 
-// The first number of bytes that is not refused by 11.
-fn taken(text: &[u8]) -> usize
-    ensures { result ≤ 16 }
-{
-    let bytes = BYTES;
-    let mut n = 0;
-    while n < 16 {
-        let answer = run(text, &bytes[0..n]);
-        if answer.refusal != 11 {
-            return n;
-        }
-        n += 1;
-    }
-    n
+// The first of the bytes, as many as are not refused by 11; all where each number of them is.
+fn taken(text: &[u8]) -> &'static [u8] {
+    let fits = |n: &usize| run(text, &BYTES[..*n]).refusal != 11;
+    &BYTES[..(0..16).find(fits).unwrap_or(16)]
 }
 
 // Prints the coefficients of the map as eight, nine and ten bytes.
 pub(crate) fn print_maps(output: &mut impl Write) {
-    let map = MAP;
-    print_word(output, b"eight_bytes");
-    print_map(output, &map[0..8]);
-    print_word(output, b"nine_bytes");
-    print_map(output, &map[0..9]);
-    print_word(output, b"ten_bytes");
-    print_map(output, &map[0..10]);
+    print_map(output, b"eight_bytes", &MAP[..8]);
+    print_map(output, b"nine_bytes", &MAP[..9]);
+    print_map(output, b"ten_bytes", &MAP);
 }
 
-// Prints what coefficients answers: number, line, and the eight bytes.
-fn print_map(output: &mut impl Write, list: &[u8]) {
+// Prints a name and what coefficients answers: number, line, and the eight bytes.
+fn print_map(output: &mut impl Write, name: &[u8], list: &[u8]) {
     let answer = coefficients(list);
+    print_word(output, name);
     print_small(output, answer.refusal);
     print_number(output, answer.line);
-    let found = answer.coefficients;
-    print_bytes(output, found);
+    print_bytes(output, answer.coefficients);
     end_line(output);
 }

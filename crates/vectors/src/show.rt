@@ -1,4 +1,4 @@
-// Names, bytes and line feeds on an output. A write that fails is passed over.
+// Names, bytes, numbers and line feeds on an output. A write that fails is passed over.
 use std::io::Write;
 
 // Writes some bytes as they are.
@@ -6,37 +6,16 @@ pub(crate) fn print_word(output: &mut impl Write, word: &[u8]) {
     let _ = output.write_all(word);
 }
 
-// The hex digit of a number below 16.
-fn digit(n: u8) -> u8 {
-    let low = n % 16;
-    if low < 10 {
-        b'0' + low
-    } else {
-        b'a' - 10 + low
-    }
-}
-
 // Writes a tab and a byte's two hex digits.
 pub(crate) fn print_byte(output: &mut impl Write, byte: u8) {
-    let high = digit(byte / 16);
-    let low = digit(byte % 16);
-    let pair: [u8; 3] = [b'\t', high, low];
-    print_word(output, &pair);
+    let _ = write!(output, "\t{byte:02x}");
 }
 
 // Writes eight bytes, each as a tab and two hex digits.
 pub(crate) fn print_bytes(output: &mut impl Write, list: [u8; 8]) {
-    let mut j: usize = 0;
-    while j < 8 {
-        print_byte(output, list[j]);
-        j += 1;
+    for byte in list {
+        print_byte(output, byte);
     }
-}
-
-// Writes the hex digit of a number below 16.
-pub(crate) fn print_digit(output: &mut impl Write, n: u8) {
-    let one: [u8; 1] = [digit(n)];
-    print_word(output, &one);
 }
 
 // Writes a tab and a number in decimal.
@@ -46,10 +25,29 @@ pub(crate) fn print_number(output: &mut impl Write, n: usize) {
 
 // Writes a tab and a byte as a number in decimal.
 pub(crate) fn print_small(output: &mut impl Write, byte: u8) {
-    print_number(output, byte as usize);
+    print_number(output, usize::from(byte));
 }
 
 // Ends a line.
 pub(crate) fn end_line(output: &mut impl Write) {
     print_word(output, b"\n");
+}
+
+// Prints a table of a byte's value, a row for each high digit of the byte: behind a name and that
+// digit, each value's first byte, and its second where that is another.
+pub(crate) fn print_rows<F: Fn(u8) -> (u8, u8)>(output: &mut impl Write, name: &[u8], value: F)
+    requires { F.IsAlwaysCallable value }
+{
+    for high in 0..16u8 {
+        print_word(output, name);
+        let _ = write!(output, "{high:x}");
+        for low in 0..16u8 {
+            let (first, second) = value(high * 16 + low);
+            print_byte(output, first);
+            if first != second {
+                print_byte(output, second);
+            }
+        }
+        end_line(output);
+    }
 }

@@ -1,6 +1,8 @@
-// The S-box of FIPS 197 and the coefficients of two maps, by the functions of crate field.
-use crate::show::{end_line, print_byte, print_bytes, print_digit, print_word};
+// The S-box of FIPS 197 and the coefficients of two maps, by the functions of crate field; and the
+// S-box by run of a text.
+use crate::show::{end_line, print_bytes, print_rows, print_word};
 use std::io::Write;
+use verdict::run::run;
 
 // The low byte of the modulus.
 const MODULUS: u8 = 0x1b;
@@ -18,25 +20,18 @@ fn sbox(x: u8) -> u8 {
     field::apply(FIPS_CONSTANT, FIPS_COLUMNS, field::power(MODULUS, x, 254))
 }
 
-// Prints the row of the S-box for one high digit.
-fn print_row(output: &mut impl Write, high: u8) {
-    print_word(output, b"sbox_");
-    print_digit(output, high);
-    let mut low: u8 = 0;
-    while low < 16 {
-        print_byte(output, sbox(high % 16 * 16 + low));
-        low += 1;
-    }
-    end_line(output);
-}
-
 // Prints the S-box, one row for each high digit.
 pub(crate) fn print_sbox(output: &mut impl Write) {
-    let mut high: u8 = 0;
-    while high < 16 {
-        print_row(output, high);
-        high += 1;
-    }
+    print_rows(output, b"sbox_", |x| (sbox(x), sbox(x)));
+}
+
+// Prints the S-box that a text computes: the original's result at each byte where the masked form
+// gives the same byte, else both.
+pub(crate) fn print_run_sbox(output: &mut impl Write, text: &[u8]) {
+    print_rows(output, b"run_", |x| {
+        let answer = run(text, &[x]);
+        (answer.original, answer.joined)
+    });
 }
 
 // Prints the eight coefficients of the map with these columns.

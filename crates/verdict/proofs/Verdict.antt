@@ -3,7 +3,7 @@
 -- which its values do not depend does not occur in it.
 -- Assumes nothing.
 use Rattle.std.proofs.Common.{◌≡◌, ℕ, suc, ◌-◌, ◌≤◌, true, false, ◌≢◌, ◌⊎◌, ◌↔◌, List, [], ◌∷◌, length, take, sym, refl, ap, ◌∙◌, subst, ap₂, inl, inr, arith, take_all, eqb-true}
-use mathlib.Core.Option.{Option, none, some}
+use Rattle.std.specs.Prelude.{Option, None as none, Some as some}
 use Rattle.field.specs.Xor.{◌⊕◌}
 use Rattle.field.specs.Laws.{Ops, Laws, gf}
 use Rattle.field.proofs.Laws.Xor.{⊕_self, ⊕-zero_eq}

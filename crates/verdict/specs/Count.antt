@@ -1,7 +1,7 @@
 -- The term count behind unknown ("The term count behind unknown").
 -- Assumes nothing.
 use Rattle.std.specs.Prelude.{ℕ, suc, ◌+◌, ◌*◌, ◌<◌, cond, List, [], ◌∷◌, ◌++◌, map, length, take, nat_lt, slice_index_or}
-use Rattle.std.proofs.Math.Option.{Option, none, some}
+use Rattle.std.specs.Prelude.{Option, None as none, Some as some}
 use Rattle.field.specs.Maps.{coefficients_of}
 use Rattle.poly.specs.Poly.{Poly}
 use Rattle.poly.specs.First.{sum}

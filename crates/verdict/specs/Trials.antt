@@ -1,11 +1,11 @@
 -- Trials where the verdict is unknown (M-103): the bytes of each valuation come from a number that runs on, and the
 -- first trial that differs under run is found.
 -- Assumes nothing.
-use Rattle.std.specs.Prelude.{◌≡◌, ℕ, zero, suc, ◌+◌, ◌/◌, ◌%◌, ◌^◌, Bool, cond, List, [], ◌∷◌, length, take, ◌==◌}
+use Rattle.std.specs.Prelude.{◌≡◌, ℕ, zero, suc, ◌+◌, ◌/◌, ◌%◌, ◌^◌, Bool, cond, Option, None, Some, List, [], ◌∷◌, length, take, ◌==◌}
 use Rattle.rules.specs.Limits.{most_variables}
 use Rattle.rules.specs.Read.{Routine}
 use Rattle.verdict.specs.declared.trials.Trial.{Trial}
-use Rattle.verdict.specs.declared.trials.Tried as code
+use Rattle.verdict.specs.declared.trials.Differing.{Differing}
 use Rattle.verdict.specs.Run.{result_at, joined_at}
 
 -- ---- the numbers
@@ -68,5 +68,6 @@ pub record TrialIs (n v : ℕ) (t : Trial) : Type 0 where
   pub next : t.next ≡ number_after v n
 
 -- what the code's answer stands for, where the routine has v variables
-unfoldable pub found_of : ℕ → code.Tried → Found
-found_of v t = cond t.found (bytes t.made (take v t.bytes)) nothing
+unfoldable pub found_of : ℕ → Option Differing → Found
+found_of v None = nothing
+found_of v (Some d) = bytes d.made (take v d.bytes)

@@ -2,7 +2,6 @@
 ghost use Rattle.std.specs.Prelude.{◌≡◌, ◌*◌, ◌≤◌, map, length, take};
 ghost use Rattle.tokens.specs.Limits.{most_shares};
 ghost use Rattle.text.specs.Routine.{outputs_of};
-ghost use Rattle.rules.specs.Limits.{most_maps};
 ghost use Rattle.verdict.specs.Meaning.{map_at, value_at, operand, given, joined};
 ghost use Rattle.verdict.specs.Instances.{bytes};
 ghost use Rattle.verdict.specs.Block.{input_values, Begun, Roomy, Filled};
@@ -16,14 +15,10 @@ pub(crate) fn begin_origin(m: u8, k: usize, inputs: usize, xs: &[u8], vs: &mut [
     ensures { Begun inputs (input_values m k inputs xs.now)
         vs.old vs.new }
 {
-    let mut i = 0;
-    let mut at = 0;
-    // the first i inputs have their values; the shares of input i begin at `at`
-    while i < inputs {
-        let end = at + k;
-        vs[i] = join(m, &xs[at..end]);
-        at = end;
-        i += 1;
+    // the first i inputs have their values
+    for i in 0..inputs {
+        let at = i * k;
+        vs[i] = join(m, &xs[at..at + k]);
     }
 }
 
@@ -32,12 +27,7 @@ pub(crate) fn begin_masked(n: usize, xs: &[u8], vs: &mut [u8])
     requires { (n ≤ length xs.now) × (n ≤ length vs.old) }
     ensures { Begun n (take n xs.now) vs.old vs.new }
 {
-    let mut i = 0;
-    // the first i variables stand at the front
-    while i < n {
-        vs[i] = xs[i];
-        i += 1;
-    }
+    vs[..n].copy_from_slice(&xs[..n]);
 }
 
 // Puts the values of the statements from..to behind the n values that their block begins with.
@@ -45,35 +35,24 @@ pub(crate) fn fill(m: u8, r: Routine, from: usize, to: usize, xs: &[u8], vs: &mu
     requires { Roomy r from to n vs.old }
     ensures { Filled m r from to n xs.now vs.old vs.new }
 {
-    let maps = r.maps;
-    let count = r.mapped;
-    let mut i = from;
+    let maps = &r.maps[..r.mapped];
+    // the values of the statements before s stand at the front, `at` of them
     let mut at = n;
-    // the values up to statement i stand at the front, `at` of them
-    while i < to {
-        let s = r.statements[i];
-        let op = s.op;
-        let v = given(m, maps, count, xs, &vs[0..at], op);
-        vs[at] = v;
-        i += 1;
+    for s in &r.statements[from..to] {
+        vs[at] = given(m, maps, xs, &vs[..at], s.op);
         at += 1;
     }
 }
 
 // What a statement gives, from the variables xs and the values vs of its set.
-fn given(m: u8, maps: [AffineMap; 8], count: usize, xs: &[u8], vs: &[u8], op: Op) -> u8
-    requires { count ≤ most_maps }
-    ensures { result ≡
-        given (bytes m) (take count maps) xs.now vs.now op }
+fn given(m: u8, maps: &[AffineMap], xs: &[u8], vs: &[u8], op: Op) -> u8
+    ensures { result ≡ given (bytes m) maps.now xs.now vs.now op }
 {
     match op {
         Op::Set(a) => operand(m, vs, a),
         Op::Xor(a, b) => operand(m, vs, a) ^ operand(m, vs, b),
         Op::Mul(a, b) => field::times(m, operand(m, vs, a), operand(m, vs, b)),
-        Op::App(f, a) => {
-            let map = map_at(maps, count, f);
-            applied(m, map, operand(m, vs, a))
-        }
+        Op::App(f, a) => applied(m, map_at(maps, f), operand(m, vs, a)),
         Op::Rand(v) => value_at(m, xs, v),
     }
 }
@@ -92,44 +71,31 @@ fn operand(m: u8, vs: &[u8], a: Operand) -> u8
 pub(crate) fn value_at(m: u8, vs: &[u8], i: usize) -> u8
     ensures { result ≡ value_at (bytes m) vs.now i }
 {
-    if i < vs.len() { vs[i] } else { 0 }
+    vs.get(i).copied().unwrap_or(0)
 }
 
 // The map at a place; past the last it is 0 everywhere.
-fn map_at(maps: [AffineMap; 8], count: usize, f: usize) -> AffineMap
-    requires { count ≤ most_maps }
-    ensures { result ≡ map_at (take count maps) f }
+fn map_at(maps: &[AffineMap], f: usize) -> AffineMap
+    ensures { result ≡ map_at maps.now f }
 {
-    if f < count {
-        maps[f]
-    } else {
-        AffineMap {
-            constant: 0,
-            columns: [0; 8],
-        }
-    }
+    maps.get(f).copied().unwrap_or(AffineMap {
+        constant: 0,
+        columns: [0; 8],
+    })
 }
 
 // The value at x of a map.
 fn applied(m: u8, f: AffineMap, x: u8) -> u8
     ensures { result ≡ (bytes m).apply f x }
 {
-    let columns = f.columns;
-    field::apply(f.constant, columns, x)
+    field::apply(f.constant, f.columns, x)
 }
 
 // The XOR of bytes.
 fn join(m: u8, xs: &[u8]) -> u8
     ensures { result ≡ joined (bytes m) xs.now }
 {
-    let mut sum: u8 = 0;
-    let mut i = xs.len();
-    // sum is the XOR of the bytes from i on
-    while 0 < i {
-        i -= 1;
-        sum = xs[i] ^ sum;
-    }
-    sum
+    xs.iter().fold(0, |sum, x| sum ^ *x)
 }
 
 // The XOR of the values that the output line names.
@@ -138,13 +104,7 @@ pub(crate) fn join_outputs(m: u8, r: Routine, vs: &[u8]) -> u8
     ensures { result ≡
         joined (bytes m) (map (value_at (bytes m) vs.now) (outputs_of r)) }
 {
-    let mut sum: u8 = 0;
-    let mut i = r.named;
-    // sum is the XOR of the outputs from i on
-    while 0 < i {
-        i -= 1;
-        let p = r.outputs[i];
-        sum = value_at(m, vs, p) ^ sum;
-    }
-    sum
+    r.outputs[..r.named]
+        .iter()
+        .fold(0, |sum, p| sum ^ value_at(m, vs, *p))
 }

@@ -3,6 +3,7 @@ ghost use Rattle.std.specs.Prelude.{◌≡◌, ◌≤◌, length, drop};
 ghost use Rattle.verdict.specs.Coefficients.{Found};
 
 use crate::report::MapReport;
+use tokens::refusal::Refusal;
 
 // The coefficients, lowest power first; 12 and eight zeros where the list is not nine bytes.
 pub fn coefficients(list: &[u8]) -> MapReport
@@ -11,7 +12,7 @@ pub fn coefficients(list: &[u8]) -> MapReport
     if list.len() != 9 {
         return MapReport {
             coefficients: [0; 8],
-            refusal: 12,
+            refusal: Refusal::ListLength.number(),
             line: 0,
         };
     }
@@ -29,12 +30,7 @@ fn columns_of(list: &[u8]) -> [u8; 8]
     requires { length list.now ≡ 9 }
     ensures { result ≡ drop 1 list.now }
 {
-    let mut columns: [u8; 8] = [0; 8];
-    let mut i = 0;
-    // the first i columns are copied
-    while i < 8 {
-        columns[i] = list[i + 1];
-        i += 1;
-    }
+    let mut columns = [0; 8];
+    columns.copy_from_slice(&list[1..]);
     columns
 }

@@ -8,6 +8,7 @@ ghost use Rattle.verdict.specs.Trials.{stepped, top_byte, agrees_on, try, TrialI
 use crate::report::Trials;
 use crate::run::{masked, original};
 use rules::limits::MOST_VARIABLES;
+use text::accepted::Accepted;
 use text::routine::Routine;
 
 // How many trials are made where nothing is said.
@@ -26,10 +27,9 @@ pub struct Trial {
     pub next: u32,
 }
 
-// Whether a trial differs; how many were made, and the bytes of the last.
+// The trial that differs: how many were made, and the bytes of the last.
 #[derive(Clone, Copy)]
-pub struct Tried {
-    pub found: bool,
+pub struct Differing {
     pub made: usize,
     pub bytes: [u8; MOST_VARIABLES],
 }
@@ -65,17 +65,16 @@ fn draw(number: u32, v: usize) -> Trial
 {
     let mut bytes = [0u8; MOST_VARIABLES];
     let mut n = number;
-    let mut i = 0;
-    // the first i bytes are taken, and n is the number after them
-    while i < v {
+    // n is the number after the bytes before this one
+    for byte in &mut bytes[..v] {
         n = stepped(n);
-        bytes[i] = top_byte(n);
-        i += 1;
+        *byte = top_byte(n);
     }
     Trial { bytes, next: n }
 }
 
-// Whether run gives one byte twice.
+// Whether run gives one byte twice. It is public and promises so for every routine whose counts are
+// within their limits, so it asks for that, and not for the routine of an accepted text.
 pub fn agrees_on(r: Routine, xs: &[u8]) -> bool
     requires { Counted r × (r.variables ≡ length xs.now) }
     ensures { result ≡ agrees_on (routine_of r) xs.now }
@@ -84,31 +83,22 @@ pub fn agrees_on(r: Routine, xs: &[u8]) -> bool
 }
 
 // Makes up to so many trials of an accepted text's routine; stops at the first that differs.
-pub fn try_all(r: Routine, t: Trials) -> Tried
-    requires { Counted r }
-    ensures { found_of r.variables result ≡ try (routine_of r) t.count t.start }
+pub fn try_all(r: Accepted, t: Trials) -> Option<Differing>
+    ensures { found_of r.routine.variables result
+        ≡ try (routine_of r.routine) t.count t.start }
 {
-    let v = r.variables;
-    let count = t.count as usize;
+    let v = r.routine.variables;
     let mut n = t.start;
-    let mut made = 0;
     // the first `made` trials agree, and n is the number after them
-    while made < count {
-        let x = draw(n, v);
-        let xs = x.bytes;
-        made += 1;
-        if !agrees_on(r, &xs[0..v]) {
-            return Tried {
-                found: true,
-                made,
-                bytes: xs,
-            };
+    for made in 0..t.count as usize {
+        let Trial { bytes, next } = draw(n, v);
+        if !agrees_on(r.routine, &bytes[..v]) {
+            return Some(Differing {
+                made: made + 1,
+                bytes,
+            });
         }
-        n = x.next;
+        n = next;
     }
-    Tried {
-        found: false,
-        made,
-        bytes: [0; MOST_VARIABLES],
-    }
+    None
 }

@@ -3,7 +3,7 @@ use mathlib.Core.Path.{◌≡◌, refl, sym, ap, ap₂, ◌∙◌, subst}
 use mathlib.Core.List.{List, ◌∷◌}
 use Prim.Native.Nat.{ℕ, suc, ◌+◌, ◌*◌, ◌-◌, ◌≤◌, ◌<◌}
 use native.Mathlib.Omega.{arith}
-use native.Mathlib.Nat.{le_refl, zero-mul, mul-le-mul_right}
+use native.Mathlib.Nat.{zero-mul, mul-le-mul_right}
 use lib.ListN.{length, get_or, take, drop, length-drop}
 use lib.Seq.{length-take-le, drop-cons}
 use Rattle.field.specs.Laws.{Ops, gf}
@@ -13,7 +13,7 @@ use Rattle.buffer.specs.Buffer.{term_at, read_terms}
 use Rattle.buffer.specs.Insert.{Holds, InsertAsked, Inserted, InsertedAny, AddAsked, AddedAny}
 use Rattle.poly.proofs.Laws.Sum.{into-sorted, into-length}
 use Rattle.buffer.proofs.Lent.Reads.{read_length}
-use Rattle.buffer.proofs.Lent.Strides.{Back, back}
+use Rattle.buffer.proofs.Lent.Strides.{back-row}
 
 -- ---- what a buffer holds
 
@@ -102,62 +102,17 @@ read_back src w j k at pos l g e =
     let u : at + suc (w - 1) ≡ j * w = omega arith in
     ap (read_terms (w - 1) src at) s ∙ ap (λ (x : ℕ). term_at (w - 1) src at ∷ read_terms (w - 1) src x (k - j)) u
 
--- the j-th of k terms of src starts at byte `at`: the term before it
-module _ (src : List ℕ) (j k w at : ℕ) (pos : 0 < w) (l : 0 < j) (most : j ≤ k) (here : at ≡ j * w)
-    (source : k * w ≤ length src) where
-  -- its place
-  pub prior-place : Back j w at (length src)
-  prior-place = back j k w at (length src) l most here source
-
-  -- it stands in src
-  pub prior-fits : at - w + w ≤ length src
-  prior-fits = omega (arith, prior-place)
-
-  -- its bytes
-  abbrev pub prior : List ℕ
-  prior = row src (at - w) w pos prior-fits
-
-  -- they are w
-  pub prior-length : length prior ≡ w
-  prior-length = row-length src (at - w) w pos prior-fits
-
-  -- the term, and those from the j-th on
-  pub read-prior : term (get_or prior 0 0) (drop 1 prior) ∷ read_terms (w - 1) src (j * w) (k - j)
-      ≡ read_terms (w - 1) src ((j - 1) * w) (k - (j - 1))
-  read-prior =
-      let u = prior-place in
-      let y : at - w ≡ (j - 1) * w = omega arith in
-      ap₂ {C = Poly} (λ (x : ℕ) (e : List ℕ). term x e ∷ read_terms (w - 1) src (j * w) (k - j))
-      (row-coef src (at - w) w pos prior-fits) (row-powers src (at - w) w pos prior-fits)
-      ∙ sym (read_back src w j k (at - w) pos l most (omega arith))
-      ∙ ap (λ (x : ℕ). read_terms (w - 1) src x (k - (j - 1))) y
-
 -- ---- the terms of src inserted, the last first
 
 -- the terms of src from j on are inserted
-pub record InAdd (b₀ : List ℕ) (r : ℕ) (src : List ℕ) (k w : ℕ) (b : List ℕ) (n j at : ℕ) : Type 0 where
+pub record InAdd (b₀ : List ℕ) (r : ℕ) (src : List ℕ) (k w : ℕ) (b : List ℕ) (n j : ℕ) : Type 0 where
   pub asked : AddAsked b₀ r src k w
   pub most : j ≤ k
-  pub here : at ≡ j * w
   pub holds : (m : ℕ) → Holds b₀ b w ((r + k) * w) n
       (into (gf m) (read_terms (w - 1) src (j * w) (k - j)) (read_terms (w - 1) b₀ 0 r))
 
 module _ {b₀ : List ℕ} {r : ℕ} {src : List ℕ} {k w : ℕ} where
-  -- at first none is
-  pub add_start : AddAsked b₀ r src k w → InAdd b₀ r src k w b₀ r k (k * w)
-  add_start a =
-      let z : 0 ≡ k - k = omega arith in
-      record {
-        asked = a;
-        most = le_refl k;
-        here = refl;
-        holds = λ m.
-            subst (λ (x : ℕ). Holds b₀ b₀ w ((r + k) * w) r
-            (into (gf m) (read_terms (w - 1) src (k * w) x) (read_terms (w - 1) b₀ 0 r))) z
-            (holds-start b₀ w ((r + k) * w) r);
-      }
-
-  module _ {b : List ℕ} {n j at : ℕ} (h : InAdd b₀ r src k w b n j at) where
+  module _ {b : List ℕ} {n j : ℕ} (h : InAdd b₀ r src k w b n j) where
     -- at last every one is
     pub add_done : j ≡ 0 → AddedAny b₀ b r src w k n
     add_done z m =
@@ -167,21 +122,46 @@ module _ {b₀ : List ℕ} {r : ℕ} {src : List ℕ} {k w : ℕ} where
         (ap₂ (λ (u v : ℕ). read_terms (w - 1) src u v) y x) (h.holds m)
 
     module _ (l : 0 < j) where
-      -- the place of the next term of src
-      pub add_back : Back j w at (length src)
-      add_back = prior-place src j k w at h.asked.some l h.most h.here h.asked.source
+      -- where the term of src before the j-th starts
+      abbrev at : ℕ
+      at = (j - 1) * w
+
+      -- where it ends
+      ends : at + w ≡ j * w
+      ends = back-row j w l
+
+      -- it stands in src
+      fits : at + w ≤ length src
+      fits = omega (arith, ends, mul-le-mul_right w h.most, h.asked.source)
 
       -- its bytes
-      abbrev next : List ℕ
-      next = prior src j k w at h.asked.some l h.most h.here h.asked.source
+      abbrev last : List ℕ
+      last = row src at w h.asked.some fits
+
+      -- as code names them
+      abbrev pub next : List ℕ
+      next = take ((j - 1 + 1) * w - at) (drop at src)
+
+      -- they are the same
+      next-last : next ≡ last
+      next-last =
+          let d : j - 1 + 1 ≡ j = omega arith in
+          ap (λ (x : ℕ). take (x - at) (drop at src)) (ap (λ (x : ℕ). x * w) d ∙ sym ends)
 
       -- they are w
-      next-length : length next ≡ w
-      next-length = prior-length src j k w at h.asked.some l h.most h.here h.asked.source
+      last-length : length last ≡ w
+      last-length = row-length src at w h.asked.some fits
 
       -- the terms inserted so far
       abbrev done : Poly
       done = read_terms (w - 1) src (j * w) (k - j)
+
+      -- the term, and those
+      read-last : term (get_or last 0 0) (drop 1 last) ∷ done ≡ read_terms (w - 1) src at (k - (j - 1))
+      read-last =
+          ap₂ {C = Poly} (λ (x : ℕ) (e : List ℕ). term x e ∷ done)
+          (row-coef src at w h.asked.some fits) (row-powers src at w h.asked.some fits)
+          ∙ sym (read_back src w j k at h.asked.some l h.most ends)
 
       -- the terms that stood there
       abbrev there : Poly
@@ -194,18 +174,18 @@ module _ {b₀ : List ℕ} {r : ℕ} {src : List ℕ} {k w : ℕ} where
       -- what its insertion asks
       pub add_asks : InsertAsked b n next
       add_asks =
-          more_asks (gf 0) b₀ b w (r + k) n done there h.asked.some h.asked.room h.asked.sorted inside
-          (h.holds 0) next next-length
+          subst (InsertAsked b n) (sym next-last)
+          (more_asks (gf 0) b₀ b w (r + k) n done there h.asked.some h.asked.room h.asked.sorted inside
+          (h.holds 0) last last-length)
 
       -- one term more is inserted
-      pub add-more : {b' : List ℕ} {n' : ℕ} → InsertedAny b b' n next n' → InAdd b₀ r src k w b' n' (j - 1) (at - w)
+      pub add-more : {b' : List ℕ} {n' : ℕ} → InsertedAny b b' n next n' → InAdd b₀ r src k w b' n' (j - 1)
       add-more {b'} {n'} i = record {
         asked = h.asked;
         most = omega (arith, h.most);
-        here = omega (arith, add_back);
         holds = λ m.
-            subst (λ (p : Poly). Holds b₀ b' w ((r + k) * w) n' (into (gf m) p there))
-            (read-prior src j k w at h.asked.some l h.most h.here h.asked.source)
+            subst (λ (p : Poly). Holds b₀ b' w ((r + k) * w) n' (into (gf m) p there)) read-last
             (more-holds (gf m) b₀ b w (r + k) n done there h.asked.some h.asked.room h.asked.sorted
-            inside (h.holds m) b' next n' next-length (i m));
+            inside (h.holds m) b' last n' last-length
+            (subst (λ (t : List ℕ). Inserted (gf m) b b' n t n') next-last (i m)));
       }

@@ -1,86 +1,68 @@
 -- Comparing two lists of powers from their ends: what a loop over the bytes, last first, may rely on. Assumes nothing.
-use mathlib.Core.Path.{◌≡◌, refl, sym, ap, ap₂, ◌∙◌, subst}
+use mathlib.Core.Path.{◌≡◌, refl, sym, ap, ap₂, ◌∙◌}
+use mathlib.Core.Logic.{◌≢◌}
 use mathlib.Core.List.{List, [], ◌∷◌}
-use Prim.Native.Nat.{ℕ, zero, suc, ◌-◌, ◌≤◌, ◌<◌, compare, Ordering}
 use Prim.Native.Nat.compare
+use Prim.Native.Nat.{ℕ, zero, suc, ◌-◌, ◌≤◌, ◌<◌, compare}
+use Prim.Native.Nat.{Ordering as Order}
 use native.Mathlib.Omega.{arith}
 use native.Mathlib.Nat.{le_of_suc-le-suc}
 use lib.ListN.{length, get_or, drop}
-use lib.Seq.{drop-cons, drop-length}
+use lib.Seq.{drop-cons}
+use Rattle.std.proofs.lemmas.Cmp.{ranked}
+use Rattle.std.specs.declared.cmp.Ordering.{Ordering}
+use Rattle.std.specs.declared.cmp.Ordering.TheVariants.{Less, Equal, Greater}
+use Rattle.std.specs.Ordering.{nat_cmp, MatchOrdering}
 use Rattle.poly.specs.Poly.{or_else, order}
 use Rattle.buffer.specs.Buffer.{answer}
+use Rattle.poly.proofs.Laws.Order.{compare_same}
 
--- a smaller number comes first
-pub compare-less : (a b : ℕ) → a < b → compare a b ≡ Ordering.lt
-compare-less a zero h = absurd (omega arith)
-compare-less zero (suc b) h = compare.zero-suc b
-compare-less (suc a) (suc b) h = compare.suc-suc a b ∙ compare-less a b (le_of_suc-le-suc h)
+-- what std says of two numbers is what `compare` says
+compare-ranked : (a b : ℕ) (o : Ordering) → MatchOrdering o (a < b) (a ≡ b) (b < a) → o ≡ answer (compare a b)
+compare-ranked zero zero Less h = absurd (omega arith)
+compare-ranked zero zero Equal h = sym (ap answer compare.zero-zero)
+compare-ranked zero zero Greater h = absurd (omega arith)
+compare-ranked zero (suc b) Less h = sym (ap answer (compare.zero-suc b))
+compare-ranked zero (suc b) Equal h = absurd (omega arith)
+compare-ranked zero (suc b) Greater h = absurd (omega arith)
+compare-ranked (suc a) zero Less h = absurd (omega arith)
+compare-ranked (suc a) zero Equal h = absurd (omega arith)
+compare-ranked (suc a) zero Greater h = sym (ap answer (compare.suc-zero a))
+compare-ranked (suc a) (suc b) Less h = compare-ranked a b Less (omega arith) ∙ sym (ap answer (compare.suc-suc a b))
+compare-ranked (suc a) (suc b) Equal h = compare-ranked a b Equal (omega arith) ∙ sym (ap answer (compare.suc-suc a b))
+compare-ranked (suc a) (suc b) Greater h =
+    compare-ranked a b Greater (omega arith) ∙ sym (ap answer (compare.suc-suc a b))
 
--- a larger number comes behind
-pub compare-more : (a b : ℕ) → b < a → compare a b ≡ Ordering.gt
-compare-more zero b h = absurd (omega arith)
-compare-more (suc a) zero h = compare.suc-zero a
-compare-more (suc a) (suc b) h = compare.suc-suc a b ∙ compare-more a b (le_of_suc-le-suc h)
+-- numbers compare as std compares them
+compare-nat : (a b : ℕ) → nat_cmp a b ≡ answer (compare a b)
+compare-nat a b = compare-ranked a b (nat_cmp a b) (ranked a b (nat_cmp a b) refl)
 
--- at the ends nothing differs
-pub ends_same : (e f : List ℕ) → length e ≡ length f → order (drop (length e) e) (drop (length e) f) ≡ Ordering.eq
-ends_same e f l =
-    ap₂ order (drop-length e) (ap (λ (k : ℕ). drop k f) l ∙ drop-length f)
+-- an answer other than `eq` is changed by no second one
+or_else-first : (o p : Order) → o ≢ Order.eq → or_else o p ≡ o
+or_else-first Order.lt p n = refl
+or_else-first Order.eq p n = absurd (n refl)
+or_else-first Order.gt p n = refl
 
--- one power more
-pub one_more : (e f : List ℕ) (k : ℕ) → k < length e → k < length f
-    → order (drop (suc k) e) (drop (suc k) f) ≡ Ordering.eq
-    → order (drop k e) (drop k f) ≡ compare (get_or e k 0) (get_or f k 0)
-one_more e f k h l q =
-    ap₂ order (drop-cons e k 0 h) (drop-cons f k 0 l)
-    ∙ ap (λ (o : Ordering). or_else o (compare (get_or e k 0) (get_or f k 0))) q
-
--- a difference further down decides: o is `lt` or `gt`, which no further answer changes
-pub decided : (o : Ordering) → ((r : Ordering) → or_else o r ≡ o) → (k : ℕ) (e f : List ℕ) → k ≤ length e → k ≤ length f
+-- a difference further down decides
+decided : (o : Order) → o ≢ Order.eq → (k : ℕ) (e f : List ℕ) → k ≤ length e → k ≤ length f
     → order (drop k e) (drop k f) ≡ o → order e f ≡ o
 decided o d zero e f h l q = q
 decided o d (suc k) [] f h l q = absurd (omega arith)
 decided o d (suc k) (a ∷ e) [] h l q = absurd (omega arith)
 decided o d (suc k) (a ∷ e) (b ∷ f) h l q =
-    ap (λ (x : Ordering). or_else x (compare a b)) (decided o d k e f (le_of_suc-le-suc h) (le_of_suc-le-suc l) q)
-    ∙ d (compare a b)
+    ap (λ (x : Order). or_else x (compare a b)) (decided o d k e f (le_of_suc-le-suc h) (le_of_suc-le-suc l) q)
+    ∙ or_else-first o (compare a b) d
 
--- ---- for a loop that goes down from the length to 0, at k with 0 < k and nothing that differs from k on
-
--- numbers neither of which is smaller compare as equal
-compare-not : (a b : ℕ) → b ≤ a → a ≤ b → compare a b ≡ Ordering.eq
-compare-not zero zero h l = compare.zero-zero
-compare-not zero (suc b) h l = absurd (omega arith)
-compare-not (suc a) zero h l = absurd (omega arith)
-compare-not (suc a) (suc b) h l = compare.suc-suc a b ∙ compare-not a b (le_of_suc-le-suc h) (le_of_suc-le-suc l)
-
-module _ (e f : List ℕ) (k : ℕ) (pos : 0 < k) (h : k ≤ length e) (l : length e ≡ length f)
-    (q : order (drop k e) (drop k f) ≡ Ordering.eq) where
-  -- the power before the k-th decides next
-  at_last : order (drop (k - 1) e) (drop (k - 1) f) ≡ compare (get_or e (k - 1) 0) (get_or f (k - 1) 0)
-  at_last =
-      let s : k ≡ suc (k - 1) = omega arith in
-      one_more e f (k - 1) (omega arith) (omega arith)
-      (subst (λ (x : ℕ). order (drop x e) (drop x f) ≡ Ordering.eq) s q)
-
-  -- a power that differs decides
-  stop : (o : Ordering) → ((r : Ordering) → or_else o r ≡ o) → compare (get_or e (k - 1) 0) (get_or f (k - 1) 0) ≡ o
-      → answer o ≡ answer (order e f)
-  stop o d c = sym (ap answer (decided o d (k - 1) e f (omega arith) (omega arith) (at_last ∙ c)))
-
-  -- a smaller power: the left comes first
-  pub stop-less : get_or e (k - 1) 0 < get_or f (k - 1) 0 → 0 ≡ answer (order e f)
-  stop-less m = stop Ordering.lt (λ r. refl) (compare-less (get_or e (k - 1) 0) (get_or f (k - 1) 0) m)
-
-  -- a larger power: the right comes first
-  pub stop-more : get_or f (k - 1) 0 < get_or e (k - 1) 0 → 2 ≡ answer (order e f)
-  stop-more m = stop Ordering.gt (λ r. refl) (compare-more (get_or e (k - 1) 0) (get_or f (k - 1) 0) m)
-
-  -- the same power: nothing differs from one further down on
-  pub go_on : get_or f (k - 1) 0 ≤ get_or e (k - 1) 0 → get_or e (k - 1) 0 ≤ get_or f (k - 1) 0
-      → order (drop (k - 1) e) (drop (k - 1) f) ≡ Ordering.eq
-  go_on m n = at_last ∙ compare-not (get_or e (k - 1) 0) (get_or f (k - 1) 0) m n
-
--- nothing differs at all
-pub all_same : (e f : List ℕ) (k : ℕ) → k ≡ 0 → order (drop k e) (drop k f) ≡ Ordering.eq → 1 ≡ answer (order e f)
-all_same e f k z q = sym (ap answer (subst (λ (x : ℕ). order (drop x e) (drop x f) ≡ Ordering.eq) z q))
+-- powers that differ, where those behind them do not, are the answer
+pub differ_at : (e f : List ℕ) (k : ℕ) → 0 < k → k ≤ length e → length e ≡ length f
+    → order (drop k e) (drop k f) ≡ Order.eq → get_or e (k - 1) 0 ≢ get_or f (k - 1) 0
+    → nat_cmp (get_or e (k - 1) 0) (get_or f (k - 1) 0) ≡ answer (order e f)
+differ_at e f zero p h l q n = absurd (omega arith)
+differ_at e f (suc k) p h l q n =
+    let s : suc k - 1 ≡ k = omega arith in
+    let o : Order = compare (get_or e k 0) (get_or f k 0) in
+    let d : get_or e k 0 ≢ get_or f k 0 =
+    λ x. n (ap (λ (i : ℕ). get_or e i 0) s ∙ x ∙ sym (ap (λ (i : ℕ). get_or f i 0) s)) in
+    ap (λ (i : ℕ). nat_cmp (get_or e i 0) (get_or f i 0)) s ∙ compare-nat (get_or e k 0) (get_or f k 0)
+    ∙ sym (ap answer (decided o (λ x. d (compare_same (get_or e k 0) (get_or f k 0) x)) k e f
+    (omega arith) (omega arith) (ap₂ order (drop-cons e k 0 h) (drop-cons f k 0 (omega arith)) ∙ ap (λ (x : Order). or_else x o) q)))

@@ -13,10 +13,6 @@ row_end i m w h = subst (λ (x : ℕ). x ≤ m * w) (suc-mul i w) (mul-le-mul_ri
 pub next_row : (i w : ℕ) → (i + 1) * w ≡ i * w + w
 next_row i w = ap (λ (x : ℕ). x * w) (add-one i) ∙ suc-mul i w
 
--- where the j-th row ends below len, one that is not behind it starts not behind it
-pub rows-below : (i j w len : ℕ) → i ≤ j → (j + 1) * w ≤ len → (j * w + w ≤ len) × (i * w ≤ j * w)
-rows-below i j w len l f = (omega (arith, next_row j w), mul-le-mul_right w l)
-
 -- rows that are not empty are no more than their bytes
 pub row_count : (m w : ℕ) → 0 < w → m ≤ m * w
 row_count m w h = subst (λ (x : ℕ). x ≤ m * w) (mul-one m) (mul-le-mul_left m h)
@@ -42,18 +38,3 @@ pub half-row : (low high m w len : ℕ) → low < high → high ≤ m → m * w 
 half-row low high m w len h k f =
     let g : low + (high - low) / 2 < m = omega (arith, halfway low high h) in
     omega (arith, row_end (low + (high - low) / 2) m w g)
-
--- the row before the j-th, which ends at byte `at`, starts w bytes before it and stands below len
-abbrev pub Back : ℕ → ℕ → ℕ → ℕ → Type 0
-Back j w at len = ((j - 1) * w + w ≡ at) × (at ≤ len) × (w ≤ at) × (at - w + w ≡ at)
-
--- the row before the j-th of k stands below the end
-pub back : (j k w at len : ℕ) → 0 < j → j ≤ k → at ≡ j * w → k * w ≤ len → Back j w at len
-back j k w at len l g e f =
-    let u = back-row j w l in
-    let v = mul-le-mul_right w g in
-    (omega arith, omega arith, omega arith, omega arith)
-
--- a row and the next one, of k rows of which j is not the last
-pub two-rows : (j k w : ℕ) → suc j < k → j * w + w + w ≤ k * w
-two-rows j k w h = omega (arith, row_end (suc j) k w h, suc-mul j w)

@@ -5,11 +5,10 @@ use Prim.Native.Nat.{ℕ, zero, suc, ◌+◌, ◌-◌, ◌≤◌, ◌<◌}
 use native.Mathlib.Omega.{arith}
 use native.Mathlib.Decide.{dec_le}
 use native.Mathlib.Nat.{le_of_suc-le-suc}
-use lib.ListN.{length, get_or, take, drop, set, length-set, length-drop}
-use lib.Seq.{ext_get_or, get_or-drop, take_all, get_or-set_same, get_or-set_other}
+use lib.ListN.{length, get_or, take, drop, length-drop}
+use lib.Seq.{ext_get_or, get_or-drop, take_all}
 use Rattle.poly.specs.Poly.{reduce, add_pows}
 use Rattle.buffer.specs.Move.{Written}
-use Rattle.buffer.proofs.Lent.Moves.{stored}
 
 -- ---- powers
 
@@ -47,26 +46,6 @@ pub record Begun (p q t₀ t : List ℕ) (c j : ℕ) : Type 0 where
   pub size : length t ≡ length t₀
   pub first : get_or t 0 0 ≡ c
   pub powers : (i : ℕ) → 0 < i → i < j → get_or t i 0 ≡ reduce (get_or p i 0 + get_or q i 0)
-
--- at first the coefficient is
-pub begun_first : (p q t : List ℕ) (c v : ℕ) → 0 < length t → v ≡ c → Begun p q (set t 0 v) (set t 0 v) c 1
-begun_first p q t c v h e = record {
-  size = refl;
-  first = get_or-set_same t 0 v 0 h ∙ e;
-  powers = λ i l g. absurd (omega arith);
-}
-
--- one power more is written
-pub begun_more : (p q t₀ t : List ℕ) (c j v : ℕ) → 0 < j → j < length t → v ≡ reduce (get_or p j 0 + get_or q j 0)
-    → Begun p q t₀ t c j
-    → Begun p q t₀ (set t j v) c (j + 1)
-begun_more p q t₀ t c j v l g e h = record {
-  size = length-set t j v ∙ h.size;
-  first = get_or-set_other t j 0 v 0 (omega arith) ∙ h.first;
-  powers = λ i k o. stored t j v i (reduce (get_or p i 0 + get_or q i 0)) g
-      (λ s. e ∙ sym (ap (λ (x : ℕ). reduce (get_or p x 0 + get_or q x 0)) s))
-      (λ n. h.powers i k (omega arith));
-}
 
 -- every power that p has is written, and those of q that p lacks are copied behind them
 module _ {p q t₀ t t' : List ℕ} {c j : ℕ} (h : Begun p q t₀ t c j)

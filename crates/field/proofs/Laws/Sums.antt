@@ -2,15 +2,14 @@
 -- Assumes nothing.
 use mathlib.Core.Path.{◌≡◌, refl, sym, ap, ap₂, ◌∙◌, subst}
 use mathlib.Core.List.{List}
-use Prim.Native.Nat.{ℕ, zero, suc, ◌+◌, ◌<◌}
+use Prim.Native.Nat.{ℕ, zero, suc, ◌<◌}
 use native.Mathlib.Nat.{le_refl, lt_trans, le_of_suc-le-suc, not-suc-le-zero}
 use native.Mathlib.Decide.{ℕ_discrete}
 use native.Mathlib.Omega.{arith}
 use lib.Arith.{lt_of_le-ne}
 use lib.Dec.{lit<}
-use borrow.Author.Count.{below_more}
-use lib.ListN.{length, get_or, set}
-use lib.Seq.{ext_get_or, get_or-set_same, get_or-set_other}
+use lib.ListN.{length, get_or}
+use lib.Seq.{ext_get_or}
 use Rattle.field.specs.Xor.{◌⊕◌}
 use Rattle.field.specs.Laws.{Ring, over}
 use Rattle.field.specs.Maps.{sum, list_of}
@@ -131,15 +130,7 @@ module _ {A : Type 0} where
   get_d_list_of (suc n) f d zero h = refl
   get_d_list_of (suc n) f d (suc i) h = get_d_list_of n (λ k. f (suc k)) d i (le_of_suc-le-suc h)
 
-  -- an array filled from the front: one place more
-  pub fill_next : (f : ℕ → A) (d : A) (l : List A) (j : ℕ) (v : A) → j < length l → ((k : ℕ) → k < j → get_or l k d ≡ f k)
-      → v ≡ f j
-      → (k : ℕ) → k < j + 1 → get_or (set l j v) k d ≡ f k
-  fill_next f d l j v h all here =
-      below_more (λ k. get_or (set l j v) k d ≡ f k) j
-      (λ k lt. get_or-set_other l j k v d (λ e. omega arith) ∙ all k lt) (get_or-set_same l j v d h ∙ here)
-
-  -- filled to the end
+  -- a list with every value at its place
   pub fill_done : (n : ℕ) (f : ℕ → A) (d : A) (l : List A) → length l ≡ n → ((k : ℕ) → k < n → get_or l k d ≡ f k)
       → l ≡ list_of n f
   fill_done n f d l e all =

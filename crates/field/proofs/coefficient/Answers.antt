@@ -1,29 +1,27 @@
 use Prim.Native.Nat.{ℕ}
 use mathlib.Core.Path.{◌≡◌, refl, sym, ap, ap₂, ◌∙◌}
 use native.Mathlib.Omega.{arith}
-use borrow.Author.Rules.{rules}
 use lib.ListN.{get_or}
 use Rattle.field.specs.Xor.{◌⊕◌}
 use Rattle.field.specs.Field.{times}
 use Rattle.field.specs.Maps
 use Rattle.field.specs.Maps.{coefficient}
+use Rattle.field.proofs.Laws.Xor.{⊕-comm}
 use Rattle.field.proofs.Laws.Steps.{term, sum-next}
 use Rattle.field.proofs.coefficient.Goals as goal
 
 pub loop-i-init : goal.loop-i-init
 unfolding Maps.sum
-loop-i-init c = (search rules, refl)
+loop-i-init c = refl
 
 pub loop-i-preserved : goal.loop-i-preserved
 unfolding ◌⊕◌
 loop-i-preserved c =
     let l = c.loop-i in
     let g = c.args in
-    let square = c.dual_squared.ensures in (
-      omega arith,
-      ap₂ ◌⊕◌ (c.times-sum.ensures ∙ ap (times g.m (get_or g.columns l.i 0)) square) l.invariant.1
-          ∙ sym (sum-next l.i (term g.m g.columns g.j)),
-    )
+    ap₂ ◌⊕◌ l.invariant (c.times-sum.ensures ∙ ap (times g.m (get_or g.columns l.i 0)) c.dual_squared.ensures)
+    ∙ ⊕-comm (Maps.sum l.i (term g.m g.columns g.j)) (term g.m g.columns g.j l.i)
+    ∙ sym (sum-next l.i (term g.m g.columns g.j))
 
 pub returns : goal.returns
 unfolding coefficient
@@ -31,4 +29,4 @@ returns c =
     let l = c.loop-i in
     let g = c.args in
     let e : l.i ≡ 8 = omega arith in
-    l.invariant.1 ∙ ap (λ (n : ℕ). Maps.sum n (term g.m g.columns g.j)) e
+    l.invariant ∙ ap (λ (n : ℕ). Maps.sum n (term g.m g.columns g.j)) e

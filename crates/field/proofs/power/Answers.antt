@@ -16,9 +16,6 @@ loop-n-init c =
     let R = ring g.m (omega arith) in
     (lit< tt, R.one-mul (power (times g.m) g.a g.e) (pow_byte R g.a g.e))
 
-pub loop-n-smaller : goal.loop-n-smaller
-loop-n-smaller c = omega arith
-
 pub loop-n-preserved : goal.loop-n-preserved
 loop-n-preserved c =
     let l = c.loop-n in

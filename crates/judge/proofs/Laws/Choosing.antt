@@ -16,6 +16,7 @@ use Rattle.buffer.specs.Buffer.{read_terms}
 use Rattle.search.specs.Search.{SearchAsked, Searched}
 use Rattle.text.specs.declared.routine.Routine as code
 use Rattle.text.specs.Routine.{routine_of}
+use Rattle.text.specs.Ready.{Ready}
 use Rattle.verdict.specs.Instances.{modulus_of, powers_of, difference}
 use Rattle.verdict.specs.Judge.{fronted}
 use Rattle.verdict.proofs.Laws.Value.{difference_reduced}
@@ -36,7 +37,8 @@ fronted-by bs l l' v e h n b =
     ∙ sym (get_or-drop v l j 0)) in
     sym (take-append-drop v l') ∙ ap₂ (λ (x y : List ℕ). x ++ y) e (tails ∙ ap (λ (k : ℕ). drop k l) (sym z))
 
-module _ {r : code.Routine} {left : List ℕ} {top k : ℕ} {list : List ℕ} (A : ChooseAsked r left top k list) where
+module _ {r : code.Routine} (Q : Ready r) {left : List ℕ} {top k : ℕ} {list : List ℕ}
+    (A : ChooseAsked r left top k list) where
   -- the buffer from the difference on
   abbrev rest : List ℕ
   rest = take (length left - top * term_bytes r) (drop (top * term_bytes r) left)
@@ -58,10 +60,10 @@ module _ {r : code.Routine} {left : List ℕ} {top k : ℕ} {list : List ℕ} (A
   rest-canon =
       subst (Canon (term_bytes r - 1)) (sym rest-terms)
       (subst (λ (n : ℕ). Canon n (difference (routine_of r))) powers
-      (difference_reduced (routine_of r) A.ready.formed).0)
+      (difference_reduced (routine_of r) Q.formed).0)
 
   lay : LayAsked left top k (term_bytes r)
-  lay = record { some = omega arith; most = omega (arith, A.ready.counted.room); room = A.room }
+  lay = record { some = omega arith; most = omega (arith, Q.counted.room); room = A.room }
 
   -- the search is asked what holds
   pub search_asked : SearchAsked modulus rest k (term_bytes r) list
@@ -69,10 +71,10 @@ module _ {r : code.Routine} {left : List ℕ} {top k : ℕ} {list : List ℕ} (A
     modulus = aes;
     some = A.some;
     wide = omega arith;
-    few = omega (arith, A.ready.counted.room);
+    few = omega (arith, Q.counted.room);
     source = end_room (term_bytes r) top k left lay;
     canon = rest-canon;
-    list = omega (arith, A.ready.counted.room, A.long);
+    list = omega (arith, Q.counted.room, A.long);
   }
 
   bytes_chosen : first_differing (gf modulus) (term_bytes r - 1) (read_terms (term_bytes r - 1) rest 0 k) ≡ chosen r
@@ -85,7 +87,7 @@ module _ {r : code.Routine} {left : List ℕ} {top k : ℕ} {list : List ℕ} (A
   chosen-listed rest' list' n h = record {
     listed =
         fronted-by (chosen r) list list' (term_bytes r - 1) (h.found
-        ∙ bytes_chosen) (omega (arith, A.ready.counted.room, A.long))
+        ∙ bytes_chosen) (omega (arith, Q.counted.room, A.long))
         h.listed (λ j l. h.behind j (omega arith));
     count = h.count ∙ ap tried bytes_chosen;
   }

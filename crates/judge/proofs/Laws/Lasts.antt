@@ -31,11 +31,12 @@ use Rattle.values.specs.declared.shelf.Shelf.{Shelf}
 use Rattle.values.specs.declared.source.Source.{Source}
 use Rattle.values.specs.declared.source.Scope.{Scope}
 use Rattle.values.specs.Shelf.{Laid}
-use Rattle.values.specs.Source.{source_of, source_size, reach, Narrow, Located}
+use Rattle.values.specs.Source.{source_of, source_size, reach, Located}
 use Rattle.values.specs.Load.{most_term_bytes, LayAsked, LoadAsked}
-use Rattle.values.specs.Raw.{most_standing, SizeAsked, OperandSized}
+use Rattle.values.specs.Raw.{most_standing, OperandSized}
 use Rattle.survey.specs.Difference.{placed, output_terms, OutputsAsked, OutputsSized}
-use Rattle.survey.specs.Survey.{modulus, term_bytes, origin_scope, masked_scope, Ready, Lent, Directed, Standing}
+use Rattle.text.specs.Ready.{Ready}
+use Rattle.survey.specs.Survey.{modulus, term_bytes, origin_scope, masked_scope, Lent, Standing}
 use Rattle.judge.specs.Settle.{LastSized, LastFormed}
 use Rattle.values.proofs.Laws.Sources.{source-length}
 use Rattle.survey.proofs.Laws.Outputs.{difference-normal}
@@ -76,31 +77,10 @@ poured-length (p ∷ ps) = length-append p (poured ps) ∙ ap (λ (k : ℕ). len
 
 -- ---- by the values that stand
 
-module _ {r : code.Routine} (Q : Ready r) {d : Shelf} (D : Directed r d) where
-  -- the origin block's places can be found
-  pub origin-narrow : Narrow (origin_scope r) d
-  origin-narrow = record {
-    sound = D.sound;
-    base = omega arith;
-    few = omega (arith, Q.counted.fits, Q.counted.room);
-  }
-
-  -- the masked block's places can be found
-  pub masked-narrow : Narrow (masked_scope r) d
-  masked-narrow = record {
-    sound = D.sound;
-    base = D.base;
-    few = omega (arith, mul-one (r.inputs * r.shares), Q.counted.fits, Q.counted.room);
-  }
-
-  -- and their sizes counted
-  pub masked-sized : SizeAsked (masked_scope r) d
-  masked-sized = record { narrow = masked-narrow; most = D.top }
-
 module _ {r : code.Routine} (Q : Ready r) {d : Shelf} {left : List ℕ} (S : Standing r left d) where
   -- the terms of all outputs
   abbrev outs : Poly
-  outs = output_terms (term_bytes r) left d (masked_scope r) r.outputs r.named
+  outs = output_terms (term_bytes r) left d (masked_scope r) (take r.named r.outputs)
 
   result-inside : r.result < r.inputs + r.origin
   unfolding routine_of origin_of
@@ -133,7 +113,7 @@ module _ {r : code.Routine} (Q : Ready r) {d : Shelf} {left : List ℕ} (S : Sta
 
   -- the raw size of the difference, by the sizes of the directory
   raw-by : (k j : ℕ) → OperandSized (origin_scope r) d (Place r.result) k
-      → OutputsSized r.outputs r.named (masked_scope r) d j
+      → OutputsSized (take r.named r.outputs) (masked_scope r) d j
       → k + j ≡ (last_step (routine_of r) (symbolic (routine_of r))).raw
   unfolding last_step operand value_at polynomials reduced_result
   raw-by k j h g =
@@ -186,12 +166,11 @@ module _ {r : code.Routine} (Q : Ready r) {d : Shelf} {left : List ℕ} (S : Sta
         };
       }
 
-      last-outputs : OutputsAsked left r.outputs r.named (masked_scope r) d right (source_size a) (term_bytes r)
+      last-outputs : OutputsAsked left (take r.named r.outputs) (masked_scope r) d right (source_size a) (term_bytes r)
       last-outputs = record {
-        narrow = masked-narrow Q S.directed;
         wide = omega (arith, mul-one (r.inputs * r.shares), Q.counted.fits);
         most = narrow-term;
-        few = Q.counted.outputs;
+        few = omega (arith, length-take r.named r.outputs, Q.counted.outputs);
         held = some-room d.top (omega arith);
         room = omega (arith, some-room (source_size a + length outs) (omega (arith, last-raw)), T.same);
       }
@@ -221,27 +200,25 @@ module _ {r : code.Routine} (Q : Ready r) {d : Shelf} {left : List ℕ} (S : Sta
       module _ {t : Scope} (e : t ≡ masked_scope r) where
         -- what forming the difference asks
         pub last-asked : LoadAsked left a right 0 (term_bytes r)
-            × OutputsAsked left r.outputs r.named t d right (source_size a) (term_bytes r)
+            × OutputsAsked left (take r.named r.outputs) t d right (source_size a) (term_bytes r)
             × LayAsked left d.top (source_size a + length
-            (output_terms (term_bytes r) left d t r.outputs r.named)) (term_bytes r)
+            (output_terms (term_bytes r) left d t (take r.named r.outputs))) (term_bytes r)
         last-asked =
             subst (λ (x : Scope). LoadAsked left a right 0 (term_bytes r)
-            × OutputsAsked left r.outputs r.named x d right (source_size a) (term_bytes r)
+            × OutputsAsked left (take r.named r.outputs) x d right (source_size a) (term_bytes r)
             × LayAsked left d.top (source_size a + length
-            (output_terms (term_bytes r) left d x r.outputs r.named)) (term_bytes r))
+            (output_terms (term_bytes r) left d x (take r.named r.outputs))) (term_bytes r))
             (sym e) (last-load, last-outputs, last-lay)
 
         -- what is formed is the difference
         pub last-formed : (left' : List ℕ) (k : ℕ)
             → Laid (term_bytes r) left left' d.top k
-            (normal (gf modulus) (source_of (term_bytes r) left a ++ output_terms (term_bytes r) left d t r.outputs
-            r.named))
+            (normal (gf modulus) (source_of (term_bytes r) left a ++ output_terms (term_bytes r) left d t (take r.named r.outputs)))
             → LastFormed r d left left' k
         last-formed left' k h =
             formed-here left' k
             (subst (λ (x : Scope). Laid (term_bytes r) left left' d.top k
-            (normal (gf modulus) (source_of (term_bytes r) left a ++ output_terms (term_bytes r) left d x r.outputs
-            r.named))) e h)
+            (normal (gf modulus) (source_of (term_bytes r) left a ++ output_terms (term_bytes r) left d x (take r.named r.outputs)))) e h)
 
 -- ---- where the scopes come of calls
 
@@ -251,25 +228,13 @@ pub located_at : (r : code.Routine) (d : Shelf) (s : Scope) (a : Source) → s �
     → Located (origin_scope r) d (Place r.result) a
 located_at r d s a e h = subst (λ (x : Scope). Located x d (Place r.result) a) e h
 
-module _ {r : code.Routine} (Q : Ready r) {d : Shelf} (D : Directed r d) {s t : Scope} (e : s ≡ origin_scope r)
+module _ {r : code.Routine} (Q : Ready r) {d : Shelf} {s t : Scope} (e : s ≡ origin_scope r)
     (f : t ≡ masked_scope r) where
-  -- the origin block's places can be found
-  pub origin-narrow-at : Narrow s d
-  origin-narrow-at = subst (λ (x : Scope). Narrow x d) (sym e) (origin-narrow Q D)
-
-  -- and their sizes counted
-  pub origin-sized-at : SizeAsked s d
-  origin-sized-at = record { narrow = origin-narrow-at; most = D.top }
-
-  -- so can the masked block's
-  pub masked-sized-at : SizeAsked t d
-  masked-sized-at = subst (λ (x : Scope). SizeAsked x d) (sym f) (masked-sized Q D)
-
   -- the sizes of the result and of all outputs added are the raw size of the difference
-  pub last-sized : (k j : ℕ) → OperandSized s d (Place r.result) k → OutputsSized r.outputs r.named t d j
+  pub last-sized : (k j : ℕ) → OperandSized s d (Place r.result) k → OutputsSized (take r.named r.outputs) t d j
       → LastSized r d (k + j)
   last-sized k j h g = record {
     means = λ left S.
         raw-by Q S k j (subst (λ (x : Scope). OperandSized x d (Place r.result) k) e h)
-        (subst (λ (x : Scope). OutputsSized r.outputs r.named x d j) f g);
+        (subst (λ (x : Scope). OutputsSized (take r.named r.outputs) x d j) f g);
   }

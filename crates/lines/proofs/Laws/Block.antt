@@ -18,11 +18,12 @@ use Rattle.rules.specs.Stated.{unnamed, stating_all, origin_as, masked_as, with_
 use Rattle.rules.specs.Stated.{with_origin_all, with_masked_all}
 use Rattle.rules.specs.Limits.{origin_from, masked_from}
 use Rattle.lookup.specs.Names.{listed, names_in}
-use Rattle.lines.specs.Lets.{set_all, put_nameless, put_let}
+use Rattle.lookup.specs.Coded.{written}
+use Rattle.lines.specs.Lets.{put_nameless, put_let}
+use Rattle.lines.specs.Stage.{stage_of}
 use Rattle.lines.specs.Known.{Kept, kept, arrays, state_in, Sound, Sized}
 use Rattle.lines.specs.Added.{origin_more, masked_more, stated, StatementsFit}
 use Rattle.lines.specs.Stored.{name_slot, let_statements, after}
-use Rattle.lines.specs.Taken.{step_of}
 use Rattle.lines.proofs.Laws.States.{take_none, state-same}
 use Rattle.lines.proofs.Laws.Lets.{all-front, all_drop, all-low, let_apart, listed_let}
 
@@ -32,7 +33,7 @@ held h x c drawn sts b =
     let k = h.known in
     kept (put_let h.names (cond b (masked_from + k.parts) (origin_from + k.wholes)) x c)
     (cond b (masked_more k drawn c) (origin_more k c))
-    (arrays h.arrays.maps (set_all h.arrays.statements (k.origin + k.masked) sts))
+    (arrays h.arrays.maps (written h.arrays.statements (k.origin + k.masked) sts))
 
 module _ (s : List ℕ) (h : Kept) (K : Sound h.known) (Z : Sized h) (x : NameRef) (c drawn : ℕ)
     (f : StatementsFit h.known c) (sts : List Statement) (l : length sts ≡ c) where
@@ -53,13 +54,14 @@ module _ (s : List ℕ) (h : Kept) (K : Sound h.known) (Z : Sized h) (x : NameRe
       ∙ ap (λ (n : ℕ). listed s t origin_from o ++ (replicate (n - 1) unnamed ++ name_in s x ∷ [])) (sym l) in
       let masked = let_apart t (origin_from + o) x c f.0 s masked_from k.parts
       (λ i a b p q. omega (arith, few, a, q)) in
-      let mine = (λ i. take (k.origin + sym l i) (set_all ss (at i) sts)) ∙ all-front ss k.origin sts room in
+      let mine = (λ i. take (k.origin + sym l i) (written ss (at i) sts)) ∙ all-front ss k.origin sts room in
       let others =
-      take_none k.masked (drop (k.origin + c) (set_all ss (k.origin + k.masked) sts)) (drop k.origin ss) z in
+      take_none k.masked (drop (k.origin + c) (written ss (k.origin + k.masked) sts)) (drop k.origin ss) z in
       state-same k k.inputs k.variables maps refl origin mine masked others
 
   masked-means : state_in s (held h x c drawn sts true)
-      ≡ masked_as (stating_all (name_in s x) sts (state_in s h).masked) ((state_in s h).variables + drawn) (state_in s h)
+      ≡ masked_as (stating_all (name_in s x) sts (state_in s h).masked) ((state_in s h).variables + drawn)
+      (state_in s h)
   unfolding state_in names_in
   masked-means =
       let k = h.known in
@@ -82,36 +84,36 @@ module _ (s : List ℕ) (h : Kept) (K : Sound h.known) (Z : Sized h) (x : NameRe
       state-same k k.inputs (k.variables + drawn) maps refl origin others masked mine
 
   -- so many statements more in their block
-  block-means : (b : Bool) → eqb h.known.stage in_masked ≡ b → h.known.stage ≤ in_masked
+  block-means : (b : Bool) → eqb (stage_of h.known.stage) in_masked ≡ b → stage_of h.known.stage ≤ in_masked
       → state_in s (held h x c drawn sts b)
       ≡ cond b (masked_as (stating_all (name_in s x) sts (state_in s h).masked) ((state_in s h).variables + drawn)
       (state_in s h))
       (origin_as (stating_all (name_in s x) sts (state_in s h).origin) (state_in s h))
   block-means true e low = masked-means
-  block-means false e low = origin-means (K.apart (omega (arith, low, eqb-false h.known.stage in_masked e)))
+  block-means false e low = origin-means (K.apart (omega (arith, low, eqb-false (stage_of h.known.stage) in_masked e)))
 
 none_more : (n : ℕ) → n + 0 ≡ n
 none_more n = omega arith
 
 module _ (s : List ℕ) (h : Kept) (K : Sound h.known) (Z : Sized h) (x : NameRef) where
   -- the statements of a `let` in its block
-  pub let_means : (f : Letting) → StatementsFit h.known f.count → h.known.stage ≤ in_masked
+  pub let_means : (f : Letting) → StatementsFit h.known f.count → stage_of h.known.stage ≤ in_masked
       → let sts = let_statements s h.names h.known f in length sts ≡ f.count
-      → state_in s (after s h (step_of 0 (stated h.known 0 f.count) (Let x f)))
-      ≡ cond (eqb h.known.stage in_masked) (with_masked_all (name_in s x) sts (state_in s h))
+      → state_in s (after s h (stated h.known 0 f.count) (Let x f))
+      ≡ cond (eqb (stage_of h.known.stage) in_masked) (with_masked_all (name_in s x) sts (state_in s h))
       (with_origin_all (name_in s x) sts (state_in s h))
-  unfolding after step_of with_masked_all with_origin_all
+  unfolding after with_masked_all with_origin_all
   let_means f fit low l =
       simp (none_more (state_in s h).variables) at
       (block-means s h K Z x f.count 0 fit (let_statements s h.names h.known f) l
-      (eqb h.known.stage in_masked) refl low)
+      (eqb (stage_of h.known.stage) in_masked) refl low)
 
   -- a statement in its block
-  pub stated-means : (drawn : ℕ) (st : Statement) → StatementsFit h.known 1 → h.known.stage ≤ in_masked
-      → state_in s (after s h (step_of 0 (stated h.known drawn 1) (Stated x st)))
-      ≡ cond (eqb h.known.stage in_masked) (with_masked drawn (name_in s x) st (state_in s h))
+  pub stated-means : (drawn : ℕ) (st : Statement) → StatementsFit h.known 1 → stage_of h.known.stage ≤ in_masked
+      → state_in s (after s h (stated h.known drawn 1) (Stated x st))
+      ≡ cond (eqb (stage_of h.known.stage) in_masked) (with_masked drawn (name_in s x) st (state_in s h))
       (with_origin (name_in s x) st (state_in s h))
-  unfolding after step_of with_masked with_origin put_nameless set_all
+  unfolding after with_masked with_origin put_nameless written
   stated-means drawn st fit low =
       simp (none_more (name_slot h.known)) at
-      (block-means s h K Z x 1 drawn fit (st ∷ []) refl (eqb h.known.stage in_masked) refl low)
+      (block-means s h K Z x 1 drawn fit (st ∷ []) refl (eqb (stage_of h.known.stage) in_masked) refl low)

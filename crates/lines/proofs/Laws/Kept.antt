@@ -13,12 +13,11 @@ use Rattle.lines.specs.declared.step.Put.TheVariants.{Nothing, Map, Input, State
 use Rattle.lines.specs.declared.step.Put.{Put}
 use Rattle.rules.specs.Grown.{with_map, with_input}
 use Rattle.rules.specs.Scope.{share_names}
-use Rattle.rules.specs.Limits.{most_maps, most_numbers, origin_from, masked_from}
+use Rattle.rules.specs.Limits.{most_maps, most_entries, origin_from, masked_from}
 use Rattle.lookup.specs.Names.{listed, names_in, put}
 use Rattle.lines.specs.Known.{Kept, state_in, Sound, Sized}
 use Rattle.lines.specs.Added.{InputFits, input_added}
 use Rattle.lines.specs.Stored.{table_after, after}
-use Rattle.lines.specs.Taken.{step_of}
 use Rattle.lookup.proofs.Laws.Arrays.{front-more}
 use Rattle.lines.proofs.Laws.States.{state-same}
 use Rattle.lines.proofs.Laws.Lets.{let_size}
@@ -26,9 +25,9 @@ use Rattle.lookup.proofs.Laws.Named.{put-length, listed-apart, listed_next}
 use Rattle.lookup.proofs.Laws.Shares.{shares-length, shares-apart, listed-shares}
 
 -- the table keeps its size
-pub table-length : (t : List ℕ) (k : Known) (p : Put) → length (table_after t k p) ≡ length t
+pub table-length : (t : List NameRef) (k : Known) (p : Put) → length (table_after t k p) ≡ length t
 table-length t k Nothing = refl
-table-length t k (Map x) = put-length t k.mapped x
+table-length t k (Map x f) = put-length t k.mapped x
 table-length t k (Input x) =
     shares-length (put t (origin_from + k.wholes) x) (masked_from + k.parts) x k.shares
     ∙ put-length t (origin_from + k.wholes) x
@@ -52,7 +51,7 @@ module _ (s : List ℕ) (h : Kept) (K : Sound h.known) (Z : Sized h) (x : NameRe
         outputs = h.known.outputs;
         named = h.known.named;
       }
-      → state_in s (after s h (record { refusal = 0; known = j; put = Map x; map = f }))
+      → state_in s (after s h j (Map x f))
       ≡ with_map (name_in s x) f (state_in s h)
   unfolding state_in after with_map names_in
   map-means f j few e =
@@ -66,14 +65,14 @@ module _ (s : List ℕ) (h : Kept) (K : Sound h.known) (Z : Sized h) (x : NameRe
       let masked = listed-apart t m x s masked_from k.parts (λ i a b q. omega arith) in
       let room : m < length h.arrays.maps = omega (arith, Z.maps) in
       let maps = front-more h.arrays.maps f m room in
-      ap (λ (q : Known). state_in s (after s h (record { refusal = 0; known = q; put = Map x; map = f }))) e
+      ap (λ (q : Known). state_in s (after s h q (Map x f))) e
       ∙ state-same k k.inputs k.variables names maps origin refl masked refl
 
   -- one input more, with its shares
   pub input-means : InputFits h.known
-      → state_in s (after s h (step_of 0 (input_added h.known) (Input x)))
+      → state_in s (after s h (input_added h.known) (Input x))
       ≡ with_input (name_in s x) (share_names (name_in s x) 0 h.known.shares) (state_in s h)
-  unfolding state_in after step_of with_input names_in
+  unfolding state_in after with_input names_in
   input-means f =
       let k = h.known in
       let t = h.names in
@@ -81,7 +80,7 @@ module _ (s : List ℕ) (h : Kept) (K : Sound h.known) (Z : Sized h) (x : NameRe
       let few : o < 272 = omega (arith, K.wholes, K.statements, f.0) in
       let all : k.parts + k.shares ≤ 272 = omega (arith, K.parts, K.statements, f.1) in
       let one = put t (origin_from + o) x in
-      let size : length one ≡ most_numbers = put-length t (origin_from + o) x ∙ Z.names in
+      let size : length one ≡ most_entries = put-length t (origin_from + o) x ∙ Z.names in
       let maps =
       shares-apart one (masked_from + k.parts) x s 0 k.mapped k.shares
       (λ i a b c d. omega (arith, K.mapped, b, c))

@@ -1,44 +1,26 @@
 -- The counts behind one record more are within their limits. Assumes nothing.
 use Prim.Native.Nat.{ℕ, ◌+◌, ◌≤◌, ◌<◌}
 use native.Mathlib.Omega.{arith}
-use mathlib.Core.Path.{◌≡◌, refl, sym, subst}
+use mathlib.Core.Path.{◌≡◌, refl}
 use mathlib.Core.Bool.{Bool, true, false, cond}
 use mathlib.Core.List.{List}
 use lib.Dec.{eqb}
 use borrow.Author.Tests.{eqb-true}
 use Rattle.tokens.specs.Limits.{most_shares}
 use Rattle.lines.specs.declared.known.Known.{Known}
+use Rattle.lines.specs.declared.order.Stage.{Stage}
+use Rattle.lines.specs.Stage.{stage_of}
 use Rattle.rules.specs.Order.{in_masked}
-use Rattle.rules.specs.Limits.{most_maps, most_inputs, most_variables, most_statements, most_entries, most_names}
-use Rattle.rules.specs.Limits.{origin_from, masked_from}
-use Rattle.lines.specs.Known.{Sound, masked_names, origin_names}
-use Rattle.lines.specs.Added.{blank, counting, input_added, origin_more, masked_more, InputFits, StatementsFit}
-
--- before the first line
-none-sound : Sound blank
-unfolding blank
-none-sound =
-    record {
-      shares = omega arith;
-      mapped = omega arith;
-      inputs = omega arith;
-      variables = omega arith;
-      statements = omega arith;
-      named = omega arith;
-      wholes = refl;
-      parts = omega arith;
-      apart = λ l. refl;
-    }
-
--- before the first line, as the code makes it
-pub blank-sound : (k : Known) → k ≡ blank → Sound k
-blank-sound k e = subst Sound (sym e) none-sound
+use Rattle.rules.specs.Limits.{most_maps, most_inputs, most_variables, most_statements}
+use Rattle.lines.specs.Known.{Sound}
+use Rattle.lines.specs.Added.{counting, input_added, origin_more, masked_more, InputFits, StatementsFit}
 
 module _ (k : Known) (K : Sound k) where
   -- another stage, share count, count of maps, result or outputs
-  pub steady : (stage shares mapped result : ℕ) (outputs : List ℕ) (named : ℕ) → shares ≤ 255 → mapped ≤ most_maps
+  pub steady : (stage : Stage) (shares mapped result : ℕ) (outputs : List ℕ) (named : ℕ) → shares ≤ 255
+      → mapped ≤ most_maps
       → named ≤ most_shares
-      → (stage < in_masked → k.masked ≡ 0)
+      → (stage_of stage < in_masked → k.masked ≡ 0)
       → Sound
       (record {
         stage = stage;
@@ -69,7 +51,7 @@ module _ (k : Known) (K : Sound k) where
 
   -- other counts
   counts-sound : (i v o m w p : ℕ) → i ≤ most_inputs → v ≤ most_variables → o + m ≤ most_statements → w ≡ i + o
-      → p ≤ v + m → (k.stage < in_masked → m ≡ 0) → Sound (counting k i v o m w p)
+      → p ≤ v + m → (stage_of k.stage < in_masked → m ≡ 0) → Sound (counting k i v o m w p)
   counts-sound i v o m w p inputs variables statements wholes parts apart =
       record {
         shares = K.shares;
@@ -90,22 +72,13 @@ module _ (k : Known) (K : Sound k) where
       (omega (arith, K.parts)) K.apart
 
   module _ (n : ℕ) (f : StatementsFit k n) where
-    -- so many entries more of either set are in the table
-    pub slots_le : (b : Bool) → cond b (masked_from + k.parts) (origin_from + k.wholes) + n ≤ most_entries
-    slots_le true = omega (arith, K.parts, K.variables, f.1)
-    slots_le false = omega (arith, K.wholes, K.inputs, f.1)
-
-    -- so many values more of either set have places
-    pub places_le : (b : Bool) → (cond b (masked_names k) (origin_names k)).count + n ≤ most_names
-    places_le true = omega (arith, K.parts, K.variables, f.1)
-    places_le false = omega (arith, K.wholes, K.inputs, f.1)
-
     -- so many statements more in their block
-    pub stated-sound : (drawn : ℕ) → k.variables + drawn ≤ most_variables → (b : Bool) → eqb k.stage in_masked ≡ b
+    pub stated-sound : (drawn : ℕ) → k.variables + drawn ≤ most_variables → (b : Bool)
+        → eqb (stage_of k.stage) in_masked ≡ b
         → Sound (cond b (masked_more k drawn n) (origin_more k n))
     stated-sound drawn few true e =
         counts-sound _ _ _ _ _ _ K.inputs few (omega (arith, f.1)) K.wholes (omega (arith, K.parts))
-        (λ l. absurd (omega (arith, eqb-true k.stage in_masked e, l)))
+        (λ l. absurd (omega (arith, eqb-true (stage_of k.stage) in_masked e, l)))
     stated-sound drawn few false e =
         counts-sound _ _ _ _ _ _ K.inputs K.variables (omega (arith, f.1)) (omega (arith, K.wholes)) K.parts
         K.apart

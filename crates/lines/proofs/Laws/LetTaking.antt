@@ -1,30 +1,38 @@
 -- The step of a `let`: its faults, and what it adds, from what was found in its formula. Assumes nothing.
-use Prim.Native.Nat.{ℕ, ◌+◌, ◌≤◌, ◌<◌}
+use Rattle.rules.specs.declared.types.Op.{Op}
+use Prim.Native.Nat.{ℕ, max, ◌+◌, ◌≤◌, ◌<◌}
 use native.Mathlib.Omega.{arith}
 use mathlib.Core.Path.{◌≡◌, refl, sym, ◌∙◌, ap, subst}
 use mathlib.Core.Bool.{Bool, true, false, cond}
 use mathlib.Core.List.{List}
-use mathlib.Core.Option.{Option, none, some, none-ne-some}
+use Rattle.std.specs.Prelude.{Option, None as none, Some as some}
+use Rattle.std.proofs.lemmas.Option.{none-some as none-ne-some}
 use lib.Dec.{ltb, eqb}
 use lib.ListN.{length, take, drop}
 use borrow.Author.Tests.{ltb-false, le-ltb, lt-ltb}
 use Rattle.tokens.specs.Limits.{most_depth}
 use Rattle.tokens.specs.Split.{SpanIs}
 use Rattle.tokens.specs.Token.{Name}
-use Rattle.grammar.specs.declared.line.Line.{Line}
+use Rattle.grammar.specs.declared.line.TextLine.{TextLine}
 use Rattle.grammar.specs.declared.formula.FormulaRead.{FormulaRead}
 use Rattle.grammar.specs.declared.line.NameRef.{NameRef}
 use Rattle.grammar.specs.Formula.{Formula, depth, operations, read_formula}
-use Rattle.grammar.specs.Line.{name_in, pieces_in, field_in}
-use Rattle.grammar.specs.Measured.{MeasureIs}
+use Rattle.grammar.specs.Line.{name_in}
+use Rattle.grammar.specs.TextLine.{pieces_of, piece_of}
+use Rattle.grammar.specs.Measured.{MeasuresAre}
 use Rattle.grammar.specs.Record.{Record, letting, nests}
 use Rattle.grammar.specs.Recorded.{let_in, formula_of}
 use Rattle.rules.specs.declared.types.Statement.{Statement}
 use Rattle.lines.specs.declared.known.Known.{Known}
-use Rattle.lines.specs.declared.known.Setting.{Setting}
+use Rattle.lines.specs.declared.setting.Setting.{Setting}
 use Rattle.lines.specs.declared.step.Letting.{Letting}
-use Rattle.lines.specs.declared.step.Put.TheVariants.{Nothing, Let}
-use Rattle.lines.specs.declared.step.Step.{Step}
+use Rattle.lines.specs.declared.step.Put.TheVariants.{Let}
+use Rattle.lines.specs.declared.limited.Limited.{Limited}
+use Rattle.std.specs.Prelude.{Ok, Err}
+use Rattle.tokens.specs.Refusal.{number}
+use Rattle.tokens.specs.declared.refusal.Refusal.{Refusal}
+use Rattle.tokens.specs.declared.refusal.Refusal.TheVariants.{TooDeep}
+use Rattle.lines.specs.Stage.{stage_of}
 use Rattle.rules.specs.Limits.{most_statements}
 use Rattle.rules.specs.Order.{in_masked}
 use Rattle.rules.specs.Stated.{with_origin_all, with_masked_all}
@@ -33,12 +41,11 @@ use Rattle.rules.specs.Faults.{repeats, reads_unknown, exceeds, miscounts}
 use Rattle.rules.specs.Added.{added}
 use Rattle.rules.specs.Scope.{let_ops}
 use Rattle.rules.specs.Added.{at_line}
-use Rattle.lookup.specs.Names.{names_in}
-use Rattle.lines.specs.Lets.{field_of, counted, statements_of, LetIs, LetWritten, Shallow}
+use Rattle.lines.specs.Lets.{field_of, statements_of, LetIs, LetWritten, Shallow}
 use Rattle.lines.specs.Added.{stated, StatementsFit}
 use Rattle.lines.specs.Known.{Arrays, kept, state_in, Sound, Sized, map_names, block_names}
 use Rattle.lines.specs.Stored.{let_statements, after}
-use Rattle.lines.specs.Taken.{first_fault, step_of, Took}
+use Rattle.lines.specs.Taken.{first_fault, Took, text_of, names_above}
 use Rattle.rules.proofs.Laws.Letting.{let_length, let_some}
 use Rattle.lines.proofs.Laws.Known.{stated-sound, stated-stage}
 use Rattle.lines.proofs.Laws.Block.{let_means}
@@ -47,22 +54,32 @@ use Rattle.lines.proofs.Laws.Taking.{Tested, no_faults, took_fault, took_deep, t
 use Rattle.lines.proofs.Laws.Taking.{statements-length}
 use Rattle.lines.proofs.Laws.LetWriting.{counted_is, let_stored}
 
-module _ (s t : List ℕ) (here : Setting) (K : Sound here.known) (x : NameRef) (f : Letting) (S : Shallow s f)
+module _ (here : Setting) (x : NameRef) (f : Letting) (S : Shallow (text_of here) f)
     (fl : f.line ≡ here.number)
-    (u : Bool) (entry exit : List ℕ) {g m : Bool} {e : ℕ}
-    (W : LetWritten (names_in s t (block_names here.known)) (names_in s t (map_names here.known)) entry exit u
-    (read_formula (field_of s f)))
-    (w : e ≡ first_fault here.stands g u m false)
-    (gq : g ≡ given (name_in s x) (names_in s t (block_names here.known)))
-    (mq : m ≡ ltb most_statements (here.known.origin + here.known.masked + f.count)) where
+    (u : Bool) (entry exit : List Op) {g m : Bool}
+    (W : LetWritten (block_names (text_of here) (names_above here) here.held.known)
+    (map_names (text_of here) (names_above here) here.held.known) entry exit u (read_formula (field_of (text_of here) f)))
+    (gq : g ≡ given (name_in (text_of here) x) (block_names (text_of here) (names_above here) here.held.known))
+    (mq : m ≡ ltb most_statements (here.held.known.origin + here.held.known.masked + f.count)) where
+  -- the text
+  abbrev s : List ℕ
+  s = text_of here
+
+  -- the names of the lines above
+  abbrev t : List NameRef
+  t = names_above here
+
   abbrev k : Known
-  k = here.known
+  k = here.held.known
+
+  abbrev K : Sound k
+  K = here.held.sound
 
   abbrev ms : List Name
-  ms = names_in s t (block_names k)
+  ms = block_names s t k
 
   abbrev maps : List Name
-  maps = names_in s t (map_names k)
+  maps = map_names s t k
 
   abbrev rec : Record
   rec = letting (name_in s x) S.formula
@@ -86,22 +103,22 @@ module _ (s t : List ℕ) (here : Setting) (K : Sound here.known) (x : NameRef) 
       }
 
   -- the `let` has a fault
-  pub let_fault : (e ≡ 0 → ⊥) → {p : Step} → p ≡ step_of e k Nothing
-      → Took s t exit here (let_in (name_in s x) (read_formula (field_of s f))) p
-  let_fault z = took_fault s t here K rec read w z tests
+  pub let_fault : {e : Refusal} → number e ≡ first_fault here.stands g u m false
+      → Took exit here (let_in (name_in s x) (read_formula (field_of s f))) (Err e)
+  let_fault w = took_fault here rec read tests w
 
   -- so many statements more are within the limits
-  pub let_fits : e ≡ 0 → StatementsFit k f.count
-  let_fits z =
-      let free = no_faults here.stands g u m false w z in
+  pub let_fits : 0 ≡ first_fault here.stands g u m false → StatementsFit k f.count
+  let_fits w =
+      let free = no_faults here.stands g u m false w refl in
       let few = ltb-false most_statements (k.origin + k.masked + f.count) (sym mq ∙ free.3) in
       (omega (arith, S.count, let_some S.formula), few)
 
   read_as : let_statements s t k f ≡ at_line f.line (let_ops ms maps (length ms) S.formula)
   read_as = ap (statements_of f.line ms maps) S.read
 
-  grown : StatementsFit k f.count → k.stage ≤ in_masked → (a : Arrays) → Sized (kept t k a)
-      → state_in s (after s (kept t k a) (step_of 0 (stated k 0 f.count) (Let x f)))
+  grown : StatementsFit k f.count → stage_of k.stage ≤ in_masked → (a : Arrays) → Sized (kept t k a)
+      → state_in s (after s (kept t k a) (stated k 0 f.count) (Let x f))
       ≡ added here.number rec (state_in s (kept t k a))
   unfolding added state_in
   grown fit low a z =
@@ -111,27 +128,28 @@ module _ (s t : List ℕ) (here : Setting) (K : Sound here.known) (x : NameRef) 
       let q = read_as
       ∙ (λ i. let ns = block_names_lem s t k a i in at_line (fl i) (let_ops ns maps (length ns) S.formula)) in
       let_means s (kept t k a) K z x f fit low long
-      ∙ (λ i. cond (eqb k.stage in_masked) (with_masked_all (name_in s x) (q i) st)
+      ∙ (λ i. cond (eqb (stage_of k.stage) in_masked) (with_masked_all (name_in s x) (q i) st)
       (with_origin_all (name_in s x) (q i) st))
 
   -- the `let` is taken
-  pub let_grown : e ≡ 0 → k.stage ≤ in_masked → {p : Step} → p ≡ step_of 0 (stated k 0 f.count) (Let x f)
-      → Took s t exit here (let_in (name_in s x) (read_formula (field_of s f))) p
-  unfolding step_of
-  let_grown z low q =
-      let fit = let_fits z in
-      let free = no_faults here.stands g u m false w z in
-      let held = let_stored s t k K x f fit S (sym looked.unknown ∙ free.2) entry exit u looked in
-      subst (Took s t exit here (let_in (name_in s x) (read_formula (field_of s f)))) (sym q)
-      (took_grown s t here K rec read (step_of 0 (stated k 0 f.count) (Let x f)) (sym z ∙ w)
-      (stated-stage k K f.count fit 0 (eqb k.stage in_masked))
-      (stated-sound k K f.count fit 0 (omega (arith, K.variables)) (eqb k.stage in_masked) refl) fit held tests
-      (grown fit low))
+  pub let_grown : 0 ≡ first_fault here.stands g u m false → stage_of k.stage ≤ in_masked
+      → {h : Limited} → h.known ≡ stated k 0 f.count
+      → Took exit here (let_in (name_in s x) (read_formula (field_of s f)))
+      (Ok (record { held = h; put = Let x f }))
+  let_grown w low {h = h} q =
+      let fit = let_fits w in
+      let held = let_stored s t k x f fit S entry exit u looked in
+      took_grown here rec read tests (record { held = h; put = Let x f }) w
+      (ap (λ (j : Known). j.stage) q ∙ stated-stage k K f.count fit 0 (eqb (stage_of k.stage) in_masked)) fit held
+      (λ a y. ap (λ (j : Known). state_in s (after s (kept t k a) j (Let x f))) q ∙ grown fit low a y)
+
+  -- the counts behind the `let` are within their limits
+  pub let_limited : 0 ≡ first_fault here.stands g u m false → {j : Known} → j ≡ stated k 0 f.count → Sound j
+  let_limited w q =
+      subst Sound (sym q) (stated-sound k K f.count (let_fits w) 0 (omega (arith, K.variables))
+      (eqb (stage_of k.stage) in_masked) refl)
 
 -- ---- a line's formula
-
-clash : {A : Type 0} → true ≡ false → A
-clash z = let q : ◌≡◌ {A = ℕ} 0 1 = cc in absurd (omega arith)
 
 -- a formula that a line has, by its measures
 pub record Measured (r : FormulaRead) (o : Option Formula) : Type 0 where
@@ -141,45 +159,41 @@ pub record Measured (r : FormulaRead) (o : Option Formula) : Type 0 where
   pub operations : r.operations ≡ operations formula
 
 -- the line has a formula
-pub measured : (r : FormulaRead) (o : Option Formula) → MeasureIs r o → r.ok ≡ true → Measured r o
-measured r none m h = let z : true ≡ false = sym h ∙ m in clash z
-measured r (some e) m h = record { formula = e; here = refl; depth = m.1; operations = m.2 }
-
--- the line has none
-pub unmeasured : (r : FormulaRead) (o : Option Formula) → MeasureIs r o → r.ok ≡ false → none ≡ o
-unmeasured r none m h = refl
-unmeasured r (some e) m h = let z : true ≡ false = sym m.0 ∙ h in clash z
+pub measured : (r : FormulaRead) (o : Option Formula) → MeasuresAre r o → Measured r o
+measured r none m = absurd m
+measured r (some e) m = record { formula = e; here = refl; depth = m.0; operations = m.1 }
 
 field-two : (b : Bool) (o : Option Formula) (e : Formula) → cond b o none ≡ some e → o ≡ cond b o none
 field-two true o e h = refl
 field-two false o e h = absurd (none-ne-some e h)
 
-module _ (s : List ℕ) (l : Line) (r : FormulaRead) (M : Measured r (formula_of (pieces_in s l))) (f : Letting) where
+module _ (l : TextLine) (r : FormulaRead) (M : Measured r (formula_of (pieces_of l))) (f : Letting) where
   -- the formula stands in the field
-  pub line-field : take f.len (drop f.at s) ≡ field_in s l 2
-      → read_formula (field_of s f) ≡ formula_of (pieces_in s l)
+  pub line-field : take f.len (drop f.at l.text.now) ≡ piece_of l 2
+      → read_formula (field_of l.text.now f) ≡ formula_of (pieces_of l)
   unfolding formula_of
   line-field h =
       ap read_formula h
-      ∙ field-two (eqb (length (pieces_in s l)) 3) (read_formula (field_in s l 2)) M.formula M.here
+      ∙ field-two (eqb (length (pieces_of l)) 3) (read_formula (piece_of l 2)) M.formula M.here
 
   -- it does not nest too deep
-  pub line-shallow : SpanIs s f.at f.len (field_in s l 2) → f.count ≡ counted r.operations
-      → r.depth ≤ most_depth → Shallow s f
+  pub line-shallow : SpanIs l.text.now f.at f.len (piece_of l 2) → f.count ≡ max r.operations 1
+      → r.depth ≤ most_depth → Shallow l.text.now f
   line-shallow P c d =
       record {
         formula = M.formula;
         read = line-field P.holds ∙ M.here;
         inside = P.inside;
-        count = c ∙ ap counted M.operations ∙ counted_is M.formula;
+        count = c ∙ ap (λ (n : ℕ). max n 1) M.operations ∙ counted_is M.formula;
         shallow = omega (arith, M.depth, d);
       }
 
 -- it nests too deep
-pub line-deep : (s t : List ℕ) (here : Setting) → Sound here.known → (x : NameRef) (r : FormulaRead)
-    (o : Option Formula) {codes : List ℕ} → Measured r o → most_depth < r.depth
-    → {p : Step} → p ≡ step_of 13 here.known Nothing → Took s t codes here (let_in (name_in s x) o) p
+pub line-deep : (here : Setting) (x : NameRef) (r : FormulaRead)
+    (o : Option Formula) {codes : List Op} → Measured r o → most_depth < r.depth
+    → Took codes here (let_in (name_in (text_of here) x) o) (Err TooDeep)
 unfolding nests
-line-deep s t here K x r o M h =
-    took_deep s t here K (letting (name_in s x) M.formula) (ap (let_in (name_in s x)) (sym M.here))
+line-deep here x r o M h =
+    took_deep here (letting (name_in (text_of here) x) M.formula)
+    (ap (let_in (name_in (text_of here) x)) (sym M.here))
     (lt-ltb most_depth (depth M.formula) (omega (arith, M.depth, h)))

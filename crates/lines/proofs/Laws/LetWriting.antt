@@ -1,16 +1,16 @@
 -- A formula of a field, looked up: there is room for its operations, and an operand alone is written as a `set`.
 -- Assumes nothing.
-use Prim.Native.Nat.{ℕ, ◌+◌, ◌*◌, ◌≤◌}
+use Rattle.rules.specs.declared.types.Op.{Op}
+use Prim.Native.Nat.{ℕ, max, ◌+◌, ◌≤◌}
 use native.Mathlib.Omega.{arith}
 use mathlib.Core.Path.{◌≡◌, refl, sym, ◌∙◌, ap, subst}
 use mathlib.Core.Bool.{Bool, true, false, cond}
 use mathlib.Core.List.{List}
-use mathlib.Core.Option.{Option, none, some}
+use Rattle.std.specs.Prelude.{Option, None as none, Some as some}
 use lib.Dec.{eqb}
-use lib.ListN.{length, take, drop}
+use lib.ListN.{length, take, drop, set}
 use lib.Seq.{length-take-le}
 use lib.ListN.{length-drop}
-use borrow.Author.Tests.{ne_eqb}
 use Rattle.tokens.specs.Token.{◌>>=◌, provided, Name}
 use Rattle.grammar.specs.Formula.{Formula, Parsed, operand, xor, mul, app, operations, parsed, whole}
 use Rattle.grammar.specs.Formula.{read_formula}
@@ -19,38 +19,38 @@ use Rattle.rules.specs.declared.types.Op.TheVariants.{Set}
 use Rattle.lines.specs.declared.step.Put.TheVariants.{Let}
 use Rattle.lookup.specs.declared.compile.Compiled.{Compiled}
 use Rattle.rules.specs.Limits.{most_statements}
-use Rattle.rules.specs.Scope.{unknown_formula, value_of, let_count, let_ops, compiled}
-use Rattle.lookup.specs.Coded.{put_op, written}
+use Rattle.rules.specs.Scope.{value_of, let_count, let_ops, compiled}
+use Rattle.lookup.specs.Coded.{written}
 use Rattle.lookup.specs.Compiled.{CompileIs, Compiles, Room}
 use Rattle.lines.specs.declared.known.Known.{Known}
 use Rattle.lookup.specs.declared.names.Names.{Names}
 use Rattle.lines.specs.declared.step.Letting.{Letting}
-use Rattle.rules.specs.Limits.{most_names}
+use Rattle.rules.specs.Limits.{most_names, origin_from, masked_from}
 use Rattle.rules.specs.Order.{in_masked}
-use Rattle.lookup.specs.Names.{names_in, Within}
+use Rattle.lookup.specs.Names.{names_in}
+use Rattle.lookup.specs.declared.compile.Lookup.{Lookup}
 use Rattle.lookup.specs.Compiled.{Looks}
+use Rattle.lines.specs.Stage.{stage_of}
 use Rattle.lines.specs.Known.{Sound, block_names, map_names, masked_names, origin_names}
 use Rattle.lines.specs.Stored.{LetsHeld}
-use Rattle.lines.specs.Lets.{field_of, statements_of, counted, LetRoom, LetIs}
+use Rattle.lines.specs.Lets.{field_of, statements_of, LetRoom, LetIs}
 use Rattle.lines.specs.Added.{StatementsFit}
 use Rattle.lines.specs.Lets.{LetWritten, Shallow}
 use Rattle.lines.specs.Given.{given_from}
-use Rattle.grammar.proofs.Laws.Holding.{Holds, FormedFormula, formula-formed}
 use Rattle.lookup.proofs.Laws.Named.{listed-length}
 use Rattle.lookup.proofs.Laws.Decoding.{written-length}
-use Rattle.lines.proofs.Laws.Known.{places_le}
-use Rattle.rules.proofs.Laws.Letting.{shallow-few}
+use Rattle.rules.proofs.Laws.Letting.{shallow-few, stated-length, let_length}
 use Rattle.lines.proofs.Laws.LetDecoding.{let_back}
 
 -- ---- how many statements there are
 
--- as many statements as its operations count as
-pub counted_is : (e : Formula) → counted (operations e) ≡ let_count e
+-- one for each operation, and one for an operand alone
+pub counted_is : (e : Formula) → max (operations e) 1 ≡ let_count e
 unfolding operations let_count
 counted_is (operand a) = refl
-counted_is (xor a b) = simp (ne_eqb (operations a + operations b + 1) 0 (λ e. omega arith))
-counted_is (mul a b) = simp (ne_eqb (operations a + operations b + 1) 0 (λ e. omega arith))
-counted_is (app f a) = simp (ne_eqb (operations a + 1) 0 (λ e. omega arith))
+counted_is (xor a b) = omega arith
+counted_is (mul a b) = omega arith
+counted_is (app f a) = omega arith
 
 -- ---- a formula with nothing behind it
 
@@ -69,19 +69,20 @@ pub field_room : (f : List ℕ) → LetRoom (read_formula f) → Room 0 (parsed 
 unfolding read_formula
 field_room f h = parsed-room (parsed f) h
 
-module _ (ms maps : List Name) (base : ℕ) (b : base ≡ length ms) (f entry mid exit : List ℕ) (r : Compiled) where
+module _ (ms maps : List Name) (base : ℕ) (b : base ≡ length ms) (f : List ℕ) (entry mid exit : List Op)
+    (r : Compiled) where
   at_base : base + 0 ≡ length ms
   at_base = omega (arith, b)
 
   module _ (u : List ℕ) where
     -- an operand alone
     alone : (e : Formula) → CompileIs ms maps base 0 0 f entry mid r e u → r.done ≡ 0
-        → exit ≡ put_op mid 0 (Set r.operand) → LetIs ms maps entry exit r.unknown e
+        → exit ≡ set mid 0 (Set r.operand) → LetIs ms maps entry exit r.unknown e
     unfolding written let_ops compiled value_of operations
     alone (operand a) C z q =
         record {
           unknown = C.unknown;
-          codes = q ∙ (λ i. put_op (C.codes i) 0 (Set (C.operand i)));
+          codes = q ∙ (λ i. set (C.codes i) 0 (Set (C.operand i)));
         }
     alone (xor a c) C z q = let d = C.done in absurd (omega (arith, z, d))
     alone (mul a c) C z q = let d = C.done in absurd (omega (arith, z, d))
@@ -123,7 +124,7 @@ module _ (ms maps : List Name) (base : ℕ) (b : base ≡ length ms) (f entry mi
 
   -- the formula of the field is an operand alone
   pub written-alone : Compiles ms maps base 0 0 f entry mid r (parsed f) → r.done ≡ 0
-      → exit ≡ put_op mid 0 (Set r.operand) → LetWritten ms maps entry exit r.unknown (read_formula f)
+      → exit ≡ set mid 0 (Set r.operand) → LetWritten ms maps entry exit r.unknown (read_formula f)
   unfolding read_formula
   written-alone C z q = parsed-is (parsed f) C (λ e u D. alone u e D z q)
 
@@ -135,13 +136,14 @@ module _ (ms maps : List Name) (base : ℕ) (b : base ≡ length ms) (f entry mi
 
 -- ---- as the code has it
 
-names-count : (s t : List ℕ) (n : Names) → n.count ≡ length (names_in s t n)
+names-count : (s : List ℕ) (t : List NameRef) (n : Names) → n.count ≡ length (names_in s t n)
 unfolding names_in
 names-count s t n = sym (listed-length s t n.from n.count)
 
-block-few : (k : Known) → Sound k → (b : Bool) → (cond b (masked_names k) (origin_names k)).count ≤ most_names
-block-few k K true = omega (arith, K.parts, K.variables, K.statements)
-block-few k K false = omega (arith, K.wholes, K.inputs, K.statements)
+block-few : (s : List ℕ) (t : List NameRef) (k : Known) → Sound k → (b : Bool)
+    → length (cond b (masked_names s t k) (origin_names s t k)) ≤ most_names
+block-few s t k K true = omega (arith, listed-length s t masked_from k.parts, K.parts, K.variables, K.statements)
+block-few s t k K false = omega (arith, listed-length s t origin_from k.wholes, K.wholes, K.inputs, K.statements)
 
 let_few : (e : Formula) → let_count e ≤ operations e + 1
 unfolding operations let_count
@@ -158,82 +160,73 @@ shallow-count s f S = omega (arith, S.count, let_few S.formula, shallow-few S.fo
 pub shallow_fits : (s : List ℕ) (f : Letting) → Shallow s f → LetRoom (read_formula (field_of s f))
 shallow_fits s f S = subst LetRoom (sym S.read) (omega (arith, shallow-few S.formula S.shallow))
 
-module _ (s t : List ℕ) (k : Known) (f : Letting) (n : Names) (e : n ≡ block_names k) (p : List ℕ) (q : p ≡ field_of s f)
-  where
-    -- the names and the field are in their places
-    pub let_looks : Sound k → Within n → f.at + f.len ≤ length s
-        → Looks s p (record { names = n; maps = map_names k; from = f.at; base = n.count })
-    let_looks K w h =
-        let size : length p ≡ f.len = ap (λ (l : List ℕ). length l) q
-        ∙ length-take-le f.len (drop f.at s) (omega (arith, length-drop f.at s)) in
-        let few : n.count ≤ most_names =
-        subst (λ (m : Names). m.count ≤ most_names) (sym e) (block-few k K (eqb k.stage in_masked)) in
-        record {
-          names = w;
-          maps = omega (arith, K.mapped);
-          based = few;
-          field = q ∙ ap (λ (i : ℕ). take i (drop f.at s)) (sym size);
-          inside = omega (arith, size, h);
-        }
+module _ (s : List ℕ) (t : List NameRef) (k : Known) (f : Letting) (n : Names)
+    (e : names_in s t n ≡ block_names s t k) (p : List ℕ) (q : p ≡ field_of s f) where
+  -- the field is in its place, and the values have places
+  pub let_looks : (w : Lookup) → w.from ≡ f.at → w.base ≡ n.count → Sound k → f.at + f.len ≤ length s → Looks s p w
+  let_looks w a b K h =
+      let size : length p ≡ f.len = ap (λ (l : List ℕ). length l) q
+      ∙ length-take-le f.len (drop f.at s) (omega (arith, length-drop f.at s)) in
+      let few = block-few s t k K (eqb (stage_of k.stage) in_masked) in
+      let all = names-count s t n ∙ ap (λ (ms : List Name). length ms) e in
+      record {
+        based = omega (arith, few, all, b);
+        field = q ∙ (λ i. take (sym size i) (drop (sym a i) s));
+        inside = omega (arith, size, h, a);
+      }
 
-    -- there is room for the operations
-    pub let_room : LetRoom (read_formula (field_of s f)) → Room 0 (parsed p)
-    let_room h = field_room p (subst (λ (l : List ℕ). LetRoom (read_formula l)) (sym q) h)
+  -- there is room for the operations
+  pub let_room : LetRoom (read_formula (field_of s f)) → Room 0 (parsed p)
+  let_room h = field_room p (subst (λ (l : List ℕ). LetRoom (read_formula l)) (sym q) h)
 
-    module _ (entry mid exit : List ℕ) (r : Compiled)
-        (C : Compiles (names_in s t n) (names_in s t (map_names k)) n.count 0 0 p entry mid r (parsed p)) where
-      told : LetWritten (names_in s t n) (names_in s t (map_names k)) entry exit r.unknown (read_formula p)
-          → LetWritten (names_in s t (block_names k)) (names_in s t (map_names k)) entry exit r.unknown
-          (read_formula (field_of s f))
-      told h =
-          subst (λ (l : List ℕ). LetWritten (names_in s t (block_names k)) (names_in s t (map_names k)) entry exit
-          r.unknown (read_formula l)) q
-          (subst (λ (m : Names). LetWritten (names_in s t m) (names_in s t (map_names k)) entry exit r.unknown
-          (read_formula p)) e h)
+  module _ (entry mid exit : List Op) (r : Compiled)
+      (C : Compiles (names_in s t n) (map_names s t k) n.count 0 0 p entry mid r (parsed p)) where
+    told : LetWritten (names_in s t n) (map_names s t k) entry exit r.unknown (read_formula p)
+        → LetWritten (block_names s t k) (map_names s t k) entry exit r.unknown
+        (read_formula (field_of s f))
+    told h =
+        subst (λ (l : List ℕ). LetWritten (block_names s t k) (map_names s t k) entry exit
+        r.unknown (read_formula l)) q
+        (subst (λ (ms : List Name). LetWritten ms (map_names s t k) entry exit r.unknown (read_formula p)) e h)
 
-      -- an operand alone is written as a `set`
-      pub let_alone_lem : r.done ≡ 0 → exit ≡ put_op mid 0 (Set r.operand)
-          → LetWritten (names_in s t (block_names k)) (names_in s t (map_names k)) entry exit r.unknown
-          (read_formula (field_of s f))
-      let_alone_lem z x =
-          told (written-alone (names_in s t n) (names_in s t (map_names k)) n.count (names-count s t n) p entry mid
-          exit r C z x)
+    -- an operand alone is written as a `set`
+    pub let_alone_lem : r.done ≡ 0 → exit ≡ set mid 0 (Set r.operand)
+        → LetWritten (block_names s t k) (map_names s t k) entry exit r.unknown
+        (read_formula (field_of s f))
+    let_alone_lem z x =
+        told (written-alone (names_in s t n) (map_names s t k) n.count (names-count s t n) p entry mid
+        exit r C z x)
 
-      -- the operations are those of the `let`
-      pub let_several : (r.done ≡ 0 → ⊥) → exit ≡ mid
-          → LetWritten (names_in s t (block_names k)) (names_in s t (map_names k)) entry exit r.unknown
-          (read_formula (field_of s f))
-      let_several z x =
-          told (written-several (names_in s t n) (names_in s t (map_names k)) n.count (names-count s t n) p entry mid
-          exit r C z x)
+    -- the operations are those of the `let`
+    pub let_several : (r.done ≡ 0 → ⊥) → exit ≡ mid
+        → LetWritten (block_names s t k) (map_names s t k) entry exit r.unknown
+        (read_formula (field_of s f))
+    let_several z x =
+        told (written-several (names_in s t n) (map_names s t k) n.count (names-count s t n) p entry mid
+        exit r C z x)
 
-let_size : (ms maps : List Name) (entry exit : List ℕ) (u : Bool) (e : Formula) → LetIs ms maps entry exit u e
+let_size : (ms maps : List Name) (entry exit : List Op) (u : Bool) (e : Formula) → LetIs ms maps entry exit u e
     → length exit ≡ length entry
 let_size ms maps entry exit u e L =
-    ap (λ (c : List ℕ). length c) L.codes ∙ written-length entry 0 (let_ops ms maps (length ms) e)
+    ap (λ (c : List Op). length c) L.codes ∙ written-length entry 0 (let_ops ms maps (length ms) e)
 
 -- the array keeps its size
-pub written-size : (ms maps : List Name) (entry exit : List ℕ) (u : Bool) (o : Option Formula) → LetRoom o
+pub written-size : (ms maps : List Name) (entry exit : List Op) (u : Bool) (o : Option Formula) → LetRoom o
     → LetWritten ms maps entry exit u o → length exit ≡ length entry
 written-size ms maps entry exit u none h W = absurd h
 written-size ms maps entry exit u (some e) h W = let_size ms maps entry exit u e W
 
 -- the statements of a `let`, read back from where they were written
-pub let_stored : (s t : List ℕ) (k : Known) → Sound k → (x : NameRef) (f : Letting) → StatementsFit k f.count
-    → (S : Shallow s f)
-    → unknown_formula (names_in s t (block_names k)) (names_in s t (map_names k)) S.formula ≡ false
-    → (entry exit : List ℕ) (u : Bool)
-    → LetIs (names_in s t (block_names k)) (names_in s t (map_names k)) entry exit u S.formula
+pub let_stored : (s : List ℕ) (t : List NameRef) (k : Known) (x : NameRef) (f : Letting) → StatementsFit k f.count
+    → (S : Shallow s f) → (entry exit : List Op) (u : Bool)
+    → LetIs (block_names s t k) (map_names s t k) entry exit u S.formula
     → LetsHeld s t exit k (Let x f)
-let_stored s t k K x f F S known entry exit u L size =
-    let ms = names_in s t (block_names k) in
-    let maps = names_in s t (map_names k) in
-    let formed : FormedFormula S.formula =
-    subst (λ (o : Option Formula). Holds FormedFormula o) S.read (formula-formed (field_of s f)) in
-    let few : length ms + f.count ≤ most_names =
-    omega (arith, names-count s t (block_names k), places_le k K f.count F (eqb k.stage in_masked)) in
-    let room : 3 * f.count ≤ length entry =
-    omega (arith, size, let_size ms maps entry exit u S.formula L, F.1) in
-    ap (λ (c : List ℕ). given_from c (Let x f) 0 f.count) L.codes
-    ∙ let_back ms maps x f S.formula entry f.count formed known few S.count room
+let_stored s t k x f F S entry exit u L size =
+    let ms = block_names s t k in
+    let maps = map_names s t k in
+    let os = let_ops ms maps (length ms) S.formula in
+    let many = S.count ∙ sym (let_length ms maps (length ms) f.line S.formula) ∙ stated-length f.line os in
+    let room : f.count ≤ length entry = omega (arith, size, let_size ms maps entry exit u S.formula L, F.1) in
+    ap (λ (c : List Op). given_from c (Let x f) 0 f.count) L.codes
+    ∙ let_back x f os entry f.count many room
     ∙ ap (statements_of f.line ms maps) (sym S.read)

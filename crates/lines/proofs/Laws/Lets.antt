@@ -9,54 +9,49 @@ use Rattle.grammar.specs.declared.line.NameRef.{NameRef}
 use Rattle.tokens.specs.Token.{Name}
 use Rattle.grammar.specs.Line.{name_in}
 use Rattle.rules.specs.Stated.{unnamed}
-use Rattle.rules.specs.Limits.{most_entries, most_numbers}
+use Rattle.rules.specs.Limits.{most_entries}
 use Rattle.lookup.specs.Names.{listed, put}
-use Rattle.lines.specs.Lets.{set_all, nameless, put_nameless, put_let}
+use Rattle.lookup.specs.Coded.{written}
+use Rattle.lines.specs.Lets.{nameless, put_nameless, put_let}
 use Rattle.lookup.proofs.Laws.Arrays.{front-more}
 use Rattle.lookup.proofs.Laws.Named.{put-length, listed-apart, listed_next}
 
 -- ---- arrays
 
 module _ {A : Type 0} where
-  -- the size stays
-  pub all-length : (xs : List A) (at : ℕ) (ys : List A) → length (set_all xs at ys) ≡ length xs
-  unfolding set_all
-  all-length xs at [] = refl
-  all-length xs at (y ∷ ys) = all-length (set xs at y) (at + 1) ys ∙ length-set xs at y
-
   -- so many elements more behind the first n
   pub all-front : (xs : List A) (n : ℕ) (ys : List A) → n + length ys ≤ length xs
-      → take (n + length ys) (set_all xs n ys) ≡ take n xs ++ ys
-  unfolding set_all
+      → take (n + length ys) (written xs n ys) ≡ take n xs ++ ys
+  unfolding written
   all-front xs n [] h =
       let e : n + 0 ≡ n = omega arith in
       ap (λ (i : ℕ). take i xs) e ∙ sym (append-nil (take n xs))
   all-front xs n (y ∷ ys) h =
       let e : n + suc (length ys) ≡ n + 1 + length ys = omega arith in
-      ap (λ (i : ℕ). take i (set_all (set xs n y) (n + 1) ys)) e
+      ap (λ (i : ℕ). take i (written (set xs n y) (n + 1) ys)) e
       ∙ all-front (set xs n y) (n + 1) ys (omega (arith, length-set xs n y))
       ∙ ap (λ (l : List A). l ++ ys) (front-more xs y n (omega arith))
       ∙ append_assoc (take n xs) (y ∷ []) ys
 
   -- behind the first o elements
-  pub all_drop : (o : ℕ) (xs : List A) (m : ℕ) (ys : List A) → drop o (set_all xs (o + m) ys) ≡ set_all (drop o xs) m ys
-  unfolding set_all
+  pub all_drop : (o : ℕ) (xs : List A) (m : ℕ) (ys : List A) → drop o (written xs (o + m) ys) ≡ written (drop o xs) m ys
+  unfolding written
   all_drop o xs m [] = refl
   all_drop o xs m (y ∷ ys) =
       let e : o + m + 1 ≡ o + (m + 1) = omega arith in
-      ap (λ (i : ℕ). drop o (set_all (set xs (o + m) y) i ys)) e
+      ap (λ (i : ℕ). drop o (written (set xs (o + m) y) i ys)) e
       ∙ all_drop o (set xs (o + m) y) (m + 1) ys
-      ∙ ap (λ (l : List A). set_all l (m + 1) ys) (drop-set-add o xs m y)
+      ∙ ap (λ (l : List A). written l (m + 1) ys) (drop-set-add o xs m y)
 
   -- the elements before stay
-  pub all-low : (n : ℕ) (xs : List A) (at : ℕ) (ys : List A) → n ≤ at → take n (set_all xs at ys) ≡ take n xs
-  unfolding set_all
+  pub all-low : (n : ℕ) (xs : List A) (at : ℕ) (ys : List A) → n ≤ at → take n (written xs at ys) ≡ take n xs
+  unfolding written
   all-low n xs at [] h = refl
   all-low n xs at (y ∷ ys) h = all-low n (set xs at y) (at + 1) ys (omega arith) ∙ take-set-le n xs at y h
 
 -- ---- the table
 
-module _ (t : List ℕ) (at : ℕ) where
+module _ (t : List NameRef) (at : ℕ) where
   nameless-length : (n : ℕ) → length (put_nameless t at n) ≡ length t
   unfolding put_nameless
   nameless-length zero = refl
@@ -83,11 +78,12 @@ module _ (t : List ℕ) (at : ℕ) where
       (λ i a b e. h i a b (omega arith) (omega arith))
       ∙ nameless-apart s from n (c - 1) (λ i a b d e. h i a b d (omega arith))
 
-same-last : {A : Type 0} (k : ℕ) (x : A) → replicate (suc k) x ≡ replicate k x ++ x ∷ []
+-- one element more at the end of so many that are the same
+pub same-last : {A : Type 0} (k : ℕ) (x : A) → replicate (suc k) x ≡ replicate k x ++ x ∷ []
 same-last zero x = refl
 same-last {A = A} (suc k) x = ap (λ (l : List A). x ∷ l) (same-last k x)
 
-listed-nameless : (s t : List ℕ) (from n k : ℕ) → from + n + k ≤ most_entries → length t ≡ most_numbers
+listed-nameless : (s : List ℕ) (t : List NameRef) (from n k : ℕ) → from + n + k ≤ most_entries → length t ≡ most_entries
     → listed s (put_nameless t (from + n) k) from (n + k) ≡ listed s t from n ++ replicate k unnamed
 unfolding put_nameless name_in
 listed-nameless s t from n zero h l =
@@ -104,8 +100,8 @@ listed-nameless s t from n (suc k) h l =
     ∙ ap (λ (ns : List Name). listed s t from n ++ ns) (sym (same-last k unnamed))
 
 -- the values of a formula stored behind the others are so many names more
-pub listed_let : (s t : List ℕ) (x : NameRef) (from n c : ℕ) → 1 ≤ c → from + n + c ≤ most_entries
-    → length t ≡ most_numbers
+pub listed_let : (s : List ℕ) (t : List NameRef) (x : NameRef) (from n c : ℕ) → 1 ≤ c → from + n + c ≤ most_entries
+    → length t ≡ most_entries
     → listed s (put_let t (from + n) x c) from (n + c)
     ≡ listed s t from n ++ (replicate (c - 1) unnamed ++ name_in s x ∷ [])
 listed_let s t x from n c some h l =

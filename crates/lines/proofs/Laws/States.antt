@@ -8,6 +8,7 @@ use Rattle.rules.specs.declared.types.AffineMap.{AffineMap}
 use Rattle.rules.specs.declared.types.Statement.{Statement}
 use Rattle.rules.specs.State.{State}
 use Rattle.lines.specs.declared.known.Known.{Known}
+use Rattle.lines.specs.Stage.{stage_of}
 
 -- no element of either list
 pub take_none : {A : Type 0} (n : ℕ) (xs ys : List A) → n ≡ 0 → take n xs ≡ take n ys
@@ -18,7 +19,7 @@ abbrev pub state_of : Known → ℕ → ℕ → List Name → List AffineMap →
     → List Statement → State
 state_of k inputs variables ns fs on os mn ms =
     record {
-      stage = k.stage;
+      stage = stage_of k.stage;
       shares = k.shares;
       map_names = ns;
       maps = fs;

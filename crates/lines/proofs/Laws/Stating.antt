@@ -1,4 +1,5 @@
 -- The step of a statement: its faults, and what it adds, from what was found for its operands. Assumes nothing.
+use Rattle.rules.specs.declared.types.Op.{Op}
 use Rattle.grammar.specs.Record.{nests}
 use Prim.Native.Nat.{ℕ, ◌+◌, ◌≤◌}
 use native.Mathlib.Omega.{arith}
@@ -10,32 +11,36 @@ use borrow.Author.Tests.{ltb-false}
 use Rattle.grammar.specs.declared.line.NameRef.{NameRef}
 use Rattle.grammar.specs.declared.record.FormRead.{FormRead}
 use Rattle.tokens.specs.Token.{Name}
-use Rattle.grammar.specs.Record.{assign}
+use Rattle.grammar.specs.Record.{Record, assign}
+use Rattle.std.specs.Prelude.{Some as some}
 use Rattle.grammar.specs.Line.{name_in}
-use Rattle.grammar.specs.Recorded.{form_at, assign_in}
+use Rattle.grammar.specs.Recorded.{form_in}
 use Rattle.lines.specs.declared.known.Known.{Known}
-use Rattle.lines.specs.declared.known.Setting.{Setting}
+use Rattle.lines.specs.declared.setting.Setting.{Setting}
 use Rattle.lookup.specs.declared.scope.FormFound.{FormFound}
-use Rattle.lines.specs.declared.step.Put.TheVariants.{Nothing, Stated}
-use Rattle.lines.specs.declared.step.Step.{Step}
+use Rattle.lines.specs.declared.step.Put.{Put}
+use Rattle.lines.specs.declared.step.Put.TheVariants.{Stated}
+use Rattle.lines.specs.declared.limited.Limited.{Limited}
+use Rattle.std.specs.Prelude.{Ok, Err}
+use Rattle.tokens.specs.Refusal.{number}
+use Rattle.tokens.specs.declared.refusal.Refusal.{Refusal}
+use Rattle.lines.specs.Stage.{stage_of}
 use Rattle.rules.specs.Order.{in_masked}
 use Rattle.rules.specs.Stated.{with_origin, with_masked}
-use Rattle.rules.specs.Scope.{given, unknown_form, op_in}
+use Rattle.rules.specs.Scope.{given, unknown_form, op_in, drawn}
 use Rattle.rules.specs.Faults.{block, repeats, reads_unknown, exceeds, miscounts}
 use Rattle.rules.specs.Added.{added}
-use Rattle.lookup.specs.Names.{names_in}
 use Rattle.lines.specs.Known.{Arrays, kept, state_in, Sound, Sized, map_names, block_names}
 use Rattle.lines.specs.Added.{StatementsFit, crowded, stated}
 use Rattle.lines.specs.Known.{masked_names, origin_names}
 use Rattle.lines.specs.Stored.{after}
 use Rattle.rules.specs.Limits.{most_statements, most_variables}
-use Rattle.lookup.specs.Found.{form_told, told_in}
-use Rattle.lines.specs.Taken.{first_fault, step_of, Took}
+use Rattle.lookup.specs.Found.{form_found}
+use Rattle.lines.specs.Taken.{first_fault, Took, text_of, names_above}
 use Rattle.tokens.proofs.Laws.Flags.{or_false}
 use Rattle.lines.proofs.Laws.Known.{stated-sound, stated-stage}
 use Rattle.lines.proofs.Laws.Block.{stated-means}
-use Rattle.lines.proofs.Laws.Taking.{Tested, took_bad, took_fault, took_grown, statements-length, Formed}
-use Rattle.lines.proofs.Laws.Taking.{formed, unformed, assign-read, assign-bad}
+use Rattle.lines.proofs.Laws.Taking.{Tested, took_fault, took_grown, statements-length}
 
 -- one statement more is within the limits
 pub room : (k : Known) (m : ℕ) → crowded k m ≡ false → (StatementsFit k 1) × (k.variables + m ≤ most_variables)
@@ -45,84 +50,99 @@ room k m h =
     ((omega arith, ltb-false most_statements many p.0), ltb-false most_variables (k.variables + m) p.1)
 
 -- the names of the block that a statement stands in
-block-named : (s t : List ℕ) (k : Known) (a : Arrays) (b : Bool)
-    → names_in s t (cond b (masked_names k) (origin_names k))
+block-named : (s : List ℕ) (t : List NameRef) (k : Known) (a : Arrays) (b : Bool)
+    → cond b (masked_names s t k) (origin_names s t k)
     ≡ (cond b (state_in s (kept t k a)).masked (state_in s (kept t k a)).origin).names
 unfolding state_in
 block-named s t k a true = refl
 block-named s t k a false = refl
 
 -- the names of the block, as the code has them
-pub block_names_lem : (s t : List ℕ) (k : Known) (a : Arrays)
-    → names_in s t (block_names k) ≡ (block (state_in s (kept t k a))).names
+pub block_names_lem : (s : List ℕ) (t : List NameRef) (k : Known) (a : Arrays)
+    → block_names s t k ≡ (block (state_in s (kept t k a))).names
 unfolding block state_in
-block_names_lem s t k a = block-named s t k a (eqb k.stage in_masked)
+block_names_lem s t k a = block-named s t k a (eqb (stage_of k.stage) in_masked)
 
-module _ (s t : List ℕ) (here : Setting) (K : Sound here.known) (x : NameRef) (f : FormRead) (r : FormFound)
-    (ms : List Name)
-    (b : ms ≡ names_in s t (block_names here.known))
-    (q : told_in r ≡ form_told ms (names_in s t (map_names here.known)) here.known.variables (form_at s f)) where
+module _ (here : Setting) (x : NameRef) (f : FormRead)
+    (r : FormFound) (ms : List Name) (b : ms ≡ block_names (text_of here) (names_above here) here.held.known)
+    (q : r ≡ form_found ms (map_names (text_of here) (names_above here) here.held.known) here.held.known.variables
+    (form_in (text_of here) f))
+    {g m : Bool} (gq : g ≡ given (name_in (text_of here) x) ms) (mq : m ≡ crowded here.held.known r.drawn) where
+  -- the text
+  abbrev s : List ℕ
+  s = text_of here
+
+  -- the names of the lines above
+  abbrev t : List NameRef
+  t = names_above here
+
   abbrev k : Known
-  k = here.known
+  k = here.held.known
 
-  -- a field is not of its form
-  pub form-bad : {codes : List ℕ} → r.ok ≡ false → {p : Step} → p ≡ step_of 5 k Nothing
-      → Took s t codes here (assign_in s (name_in s x) f) p
-  form-bad h = took_bad s t here K (assign-bad s (name_in s x) f
-      (unformed ms (names_in s t (map_names k)) k.variables r (form_at s f) q h))
+  abbrev K : Sound k
+  K = here.held.sound
 
-  module _ (h : r.ok ≡ true) {g m : Bool} {e : ℕ} (w : e ≡ first_fault here.stands g r.unknown m false)
-      (gq : g ≡ given (name_in s x) ms)
-      (mq : m ≡ crowded k r.drawn) where
-    F : Formed ms (names_in s t (map_names k)) k.variables (form_at s f) r
-    F = formed ms (names_in s t (map_names k)) k.variables r (form_at s f) q h
+  abbrev maps : List Name
+  maps = map_names s t k
 
-    tests : (a : Arrays) → Sized (kept t k a)
-        → Tested (state_in s (kept t k a)) (assign (name_in s x) F.form) g r.unknown m false
-    unfolding repeats reads_unknown exceeds miscounts state_in nests
-    tests a z =
-        let same = b ∙ block_names_lem s t k a in
-        record {
-          repeats = gq ∙ ap (given (name_in s x)) same;
-          unknown = F.unknown ∙ ap (λ (ns : List Name). unknown_form ns (names_in s t (map_names k)) F.form) same;
-          exceeds = mq ∙ (λ i. ltb most_statements (sym (statements-length s (kept t k a) K z) i + 1)
-              || ltb most_variables (k.variables + F.drawn i));
-          miscounts = refl;
-          shallow = refl;
-        }
+  abbrev statement : Record
+  statement = assign (name_in s x) (form_in s f)
 
-    -- the statement has a fault
-    pub form-fault : {codes : List ℕ} → (e ≡ 0 → ⊥) → {p : Step} → p ≡ step_of e k Nothing
-        → Took s t codes here (assign_in s (name_in s x) f) p
-    form-fault z = took_fault s t here K (assign (name_in s x) F.form)
-        (assign-read s (name_in s x) f F.here) w z tests
+  drawn-is : r.drawn ≡ drawn (form_in s f)
+  unfolding form_found
+  drawn-is = ap (λ (y : FormFound). y.drawn) q
 
-    -- the step of the statement
-    step : Step
-    step = step_of 0 (stated k r.drawn 1) (Stated x (record { op = r.op; line = here.number }))
+  tests : (a : Arrays) → Sized (kept t k a)
+      → Tested (state_in s (kept t k a)) statement g r.unknown m false
+  unfolding repeats reads_unknown exceeds miscounts state_in nests form_found
+  tests a z =
+      let same = b ∙ block_names_lem s t k a in
+      record {
+        repeats = gq ∙ ap (given (name_in s x)) same;
+        unknown =
+            ap (λ (y : FormFound). y.unknown) q ∙ ap (λ (ns : List Name). unknown_form ns maps (form_in s f)) same;
+        exceeds = mq ∙ (λ i. ltb most_statements (sym (statements-length s (kept t k a) K z) i + 1)
+            || ltb most_variables (k.variables + drawn-is i));
+        miscounts = refl;
+        shallow = refl;
+      }
 
-    grown : (a : Arrays) → Sized (kept t k a) → StatementsFit k 1 → k.stage ≤ in_masked
-        → state_in s (after s (kept t k a) step)
-        ≡ added here.number (assign (name_in s x) F.form) (state_in s (kept t k a))
-    unfolding added state_in step
-    grown a z fit low =
-        let same = b ∙ block_names_lem s t k a in
-        let op = F.op
-        ∙ ap (λ (ns : List Name). op_in ns (names_in s t (map_names k)) k.variables F.form) same in
-        stated-means s (kept t k a) K z x r.drawn (record { op = r.op; line = here.number }) fit low
-        ∙ (λ i. cond (eqb k.stage in_masked)
-        (with_masked (F.drawn i) (name_in s x) (record { op = op i; line = here.number }) (state_in s (kept t k a)))
-        (with_origin (name_in s x) (record { op = op i; line = here.number }) (state_in s (kept t k a))))
+  -- the statement has a fault
+  pub form-fault : {codes : List Op} {e : Refusal} → number e ≡ first_fault here.stands g r.unknown m false
+      → Took codes here (some statement) (Err e)
+  form-fault w = took_fault here statement
+      refl tests w
 
-    -- the statement is taken
-    pub form-grown : {codes : List ℕ} → e ≡ 0 → (StatementsFit k 1) × (k.variables + r.drawn ≤ most_variables)
-        → k.stage ≤ in_masked
-        → {p : Step} → p ≡ step_of 0 (stated k r.drawn 1) (Stated x (record { op = r.op; line = here.number }))
-        → Took s t codes here (assign_in s (name_in s x) f) p
-    unfolding step step_of
-    form-grown z fit low e =
-        subst (Took s t _ here (assign_in s (name_in s x) f)) (sym e)
-        (took_grown s t here K (assign (name_in s x) F.form) (assign-read s (name_in s x) f F.here)
-        step (sym z ∙ w) (stated-stage k K 1 fit.0 r.drawn (eqb k.stage in_masked))
-        (stated-sound k K 1 fit.0 r.drawn fit.1 (eqb k.stage in_masked) refl) fit.0 tt tests
-        (λ a y. grown a y fit.0 low))
+  -- the statement, by places
+  abbrev put : Put
+  put = Stated x (record { op = r.op; line = here.number })
+
+  grown : (a : Arrays) → Sized (kept t k a) → StatementsFit k 1 → stage_of k.stage ≤ in_masked
+      → state_in s (after s (kept t k a) (stated k r.drawn 1) put)
+      ≡ added here.number statement (state_in s (kept t k a))
+  unfolding added state_in form_found
+  grown a z fit low =
+      let same = b ∙ block_names_lem s t k a in
+      let op = ap (λ (y : FormFound). y.op) q
+      ∙ ap (λ (ns : List Name). op_in ns maps k.variables (form_in s f)) same in
+      stated-means s (kept t k a) K z x r.drawn (record { op = r.op; line = here.number }) fit low
+      ∙ (λ i. cond (eqb (stage_of k.stage) in_masked)
+      (with_masked (drawn-is i) (name_in s x) (record { op = op i; line = here.number }) (state_in s (kept t k a)))
+      (with_origin (name_in s x) (record { op = op i; line = here.number }) (state_in s (kept t k a))))
+
+  -- the statement is taken
+  pub form-grown : {codes : List Op} → 0 ≡ first_fault here.stands g r.unknown m false
+      → (StatementsFit k 1) × (k.variables + r.drawn ≤ most_variables)
+      → stage_of k.stage ≤ in_masked → {h : Limited} → h.known ≡ stated k r.drawn 1
+      → Took codes here (some statement) (Ok (record { held = h; put = put }))
+  form-grown {codes} w fit low {h = h} e =
+      took_grown here statement refl tests (record { held = h; put = put }) w
+      (ap (λ (j : Known). j.stage) e ∙ stated-stage k K 1 fit.0 r.drawn (eqb (stage_of k.stage) in_masked)) fit.0 tt
+      (λ a y. ap (λ (j : Known). state_in s (after s (kept t k a) j put)) e ∙ grown a y fit.0 low)
+
+-- the counts behind the statement are within their limits
+pub stated-limited : (h : Limited) (drawn : ℕ)
+    → (StatementsFit h.known 1) × (h.known.variables + drawn ≤ most_variables)
+    → {j : Known} → j ≡ stated h.known drawn 1 → Sound j
+stated-limited h drawn fit e =
+    subst Sound (sym e) (stated-sound h.known h.sound 1 fit.0 drawn fit.1 (eqb (stage_of h.known.stage) in_masked) refl)

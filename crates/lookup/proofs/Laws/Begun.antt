@@ -3,9 +3,9 @@ use Prim.Native.Nat.{ℕ, suc, ◌+◌, ◌-◌, ◌≤◌, ◌<◌}
 use mathlib.Core.Path.{◌≡◌, sym, ap, subst, ◌∙◌}
 use mathlib.Core.Bool.{Bool, ◌||◌}
 use mathlib.Core.List.{List, [], ◌∷◌, ◌++◌}
-use mathlib.Core.Option.{some}
+use Rattle.std.specs.Prelude.{Some as some}
 use native.Mathlib.Omega.{arith}
-use lib.ListN.{length, drop, length-drop, length-append}
+use lib.ListN.{length, drop, set, length-drop, length-append}
 use lib.Seq.{drop-drop}
 use Rattle.tokens.specs.Ascii.{comma, closing}
 use Rattle.tokens.specs.Token.{Name}
@@ -18,24 +18,24 @@ use Rattle.lookup.specs.declared.compile.Compiled.{Compiled}
 use Rattle.rules.specs.Limits.{most_statements}
 use Rattle.rules.specs.Scope.{unknown_formula, value_of, compiled}
 use Rattle.lookup.specs.Found.{operated}
-use Rattle.lookup.specs.Coded.{put_op, written}
+use Rattle.lookup.specs.Coded.{written}
 use Rattle.lookup.specs.Compiled.{compiled_of, CompileIs, Compiles, Room}
 use Rattle.rules.proofs.Laws.Letting.{compiled-length}
 use Rattle.lookup.proofs.Laws.Parts.{past-some}
 
 -- ---- operations written one after another
 
-pub written_append : (t : List ℕ) (k : ℕ) (xs ys : List Op)
+pub written_append : {A : Type 0} (t : List A) (k : ℕ) (xs ys : List A)
     → written t k (xs ++ ys) ≡ written (written t k xs) (k + length xs) ys
 unfolding written
 written_append t k [] ys = ap (λ (i : ℕ). written t i ys) (omega arith)
 written_append t k (x ∷ xs) ys =
     let e : k + 1 + length xs ≡ k + suc (length xs) = omega arith in
-    written_append (put_op t k x) (k + 1) xs ys ∙ ap (λ (i : ℕ). written (written (put_op t k x) (k + 1) xs) i ys) e
+    written_append (set t k x) (k + 1) xs ys ∙ ap (λ (i : ℕ). written (written (set t k x) (k + 1) xs) i ys) e
 
 -- ---- the first part of an operation
 
-module _ (ms maps : List Name) (base at k : ℕ) (f entry mid : List ℕ) (x : Compiled) (o : Operation) where
+module _ (ms maps : List Name) (base at k : ℕ) (f : List ℕ) (entry mid : List Op) (x : Compiled) (o : Operation) where
   -- the first part x was looked up, and what stands behind it makes the operation whole
   pub record Begun : Type 0 where
     pub e : Formula
@@ -80,7 +80,7 @@ module _ (ms maps : List Name) (base at k : ℕ) (f entry mid : List ℕ) (x : C
         let q : some (B.b, B.v) ≡ parsed (drop (x.end + 1) f) = sym B.nested ∙ ap parsed next-at.0 in
         subst (Room x.done) q (omega (arith, B.done, B.counted, B.room))
 
-    module _ (exit : List ℕ) (y : Compiled) (h : Compiles ms maps base (x.end + 1) x.done f mid exit y
+    module _ (exit : List Op) (y : Compiled) (h : Compiles ms maps base (x.end + 1) x.done f mid exit y
         (parsed (drop (x.end + 1) f))) where
       second : CompileIs ms maps base (x.end + 1) x.done f mid exit y B.b B.v
       second =
@@ -99,8 +99,8 @@ module _ (ms maps : List Name) (base at k : ℕ) (f entry mid : List ℕ) (x : C
           omega (arith, p.1, n, second.within)
 
       -- the operation is looked up
-      pub pair-compiled : (out : List ℕ) (r : Compiled)
-          → out ≡ put_op exit y.done (operated o x.operand y.operand)
+      pub pair-compiled : (out : List Op) (r : Compiled)
+          → out ≡ set exit y.done (operated o x.operand y.operand)
           → r ≡ compiled_of (y.end + 1) (x.unknown || y.unknown) (Place (base + y.done)) (y.done + 1)
           → Compiles ms maps base at k f entry out r (parsed (drop at f))
       unfolding written
@@ -136,14 +136,15 @@ module _ (ms maps : List Name) (base at k : ℕ) (f entry mid : List ℕ) (x : C
             unknown = ap (λ (z : Bool). x.unknown || z) second.unknown ∙ sym B.unknowns;
             operand = ap Place place ∙ sym B.value;
             done = omega (arith, second.done, B.done, B.counted);
-            codes = c ∙ (λ i. put_op (ex i) (to i) (operated o x.operand (val i)))
+            codes = c ∙ (λ i. set (ex i) (to i) (operated o x.operand (val i)))
                 ∙ sym (written_append entry k (B.ops ++ cb) (op ∷ [])) ∙ ap (written entry k) (sym B.made);
           }))
 
 -- the same first part under other names
-pub begun_as : {ms maps : List Name} {base at k : ℕ} {f entry mid out : List ℕ} {x y : Compiled} {o p : Operation}
+pub begun_as : {ms maps : List Name} {base at k : ℕ} {f : List ℕ} {entry mid out : List Op}
+    {x y : Compiled} {o p : Operation}
     → out ≡ mid → p ≡ o → y ≡ x → Begun ms maps base at k f entry mid x o → Begun ms maps base at k f entry out y p
 begun_as {ms} {maps} {base} {at} {k} {f} {entry} {mid} {out} {x} {y} {o} {p} a b c B =
-    subst (λ (z : List ℕ). Begun ms maps base at k f entry z y p) (sym a)
+    subst (λ (z : List Op). Begun ms maps base at k f entry z y p) (sym a)
     (subst (λ (z : Operation). Begun ms maps base at k f entry mid y z) (sym b)
     (subst (λ (z : Compiled). Begun ms maps base at k f entry mid z o) (sym c) B))

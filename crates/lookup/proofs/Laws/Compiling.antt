@@ -1,27 +1,29 @@
 -- A formula looked up part by part gives what the definition says of the whole. Assumes nothing.
-use Prim.Native.Nat.{ℕ, ◌+◌, ◌≤◌, ◌<◌}
+use Prim.Native.Nat.{ℕ, ◌+◌, ◌-◌, ◌≤◌, ◌<◌}
 use mathlib.Core.Path.{◌≡◌, refl, sym, ap, subst, ◌∙◌}
 use mathlib.Core.Bool.{Bool, true, false, ◌||◌}
 use mathlib.Core.List.{List, [], ◌∷◌, ◌++◌}
-use mathlib.Core.Option.{Option, none, some, some-injective}
+use Rattle.std.specs.Prelude.{Option, None as none, Some as some}
+use Rattle.std.proofs.lemmas.Option.{same_Some as some-injective}
 use native.Mathlib.Omega.{arith}
 use lib.Dec.{eqb}
-use lib.ListN.{length, drop}
+use lib.ListN.{length, take, drop}
 use Rattle.tokens.specs.Ascii.{is_mark}
 use Rattle.tokens.specs.Split.{until}
-use Rattle.tokens.specs.Token.{◌>>=◌, provided, Name, Term, read_name, read_plain, read_term}
+use Rattle.tokens.specs.Token.{◌>>=◌, provided, Name, Term, name, read_name, read_plain, read_term}
 use Rattle.tokens.specs.Limits.{no_part}
 use Rattle.grammar.specs.declared.formula.Operation.{Operation}
 use Rattle.grammar.specs.declared.record.Binary.{Binary}
 use Rattle.grammar.specs.Formula.{Formula, Parsed, operand, app, twofold, operations, front, rest, operation_at}
 use Rattle.grammar.specs.Formula.{map_at, operand_at, pair_at, level_for, level, parsed}
 use Rattle.rules.specs.declared.types.Operand.{Operand}
+use Rattle.rules.specs.declared.types.Op.{Op}
 use Rattle.rules.specs.declared.types.Operand.TheVariants.{Place}
 use Rattle.lookup.specs.declared.compile.Compiled.{Compiled}
 use Rattle.rules.specs.Limits.{most_statements}
 use Rattle.rules.specs.Scope.{place_of, missing, unknown_term, operand_in, unknown_formula, value_of, compiled}
-use Rattle.lookup.specs.Found.{joined, operated, term_found, as_term}
-use Rattle.lookup.specs.Compiled.{compiled_of, MapLooked, TermLooked}
+use Rattle.lookup.specs.Found.{joined, operated, term_found}
+use Rattle.lookup.specs.Compiled.{compiled_of, looked, MapLooked, TermLooked}
 use Rattle.lookup.specs.Coded.{written}
 use Rattle.lookup.specs.Compiled.{CompileIs, Compiles, Room}
 use Rattle.grammar.proofs.Laws.Formula.{parsed-level}
@@ -74,7 +76,8 @@ plain-named s g (some n) e = go (eqb n.part no_part) e
     go true p = p
     go false p = let z : ◌≡◌ {A = ℕ} 0 1 = cc in absurd (omega arith)
 
-module _ (ms maps : List Name) (base at k mark : ℕ) (f entry mid : List ℕ) (x : Compiled) (h : at ≤ length f)
+module _ (ms maps : List Name) (base at k mark : ℕ) (f : List ℕ) (entry mid : List Op) (x : Compiled)
+    (h : at ≤ length f)
     (e : mark ≡ at + until is_mark (drop at f)) (room : Room k (parsed (drop at f))) where
   -- an operation on two formulas
   two_view : (g : Binary) → operation_at (drop at f) ≡ Operation.Two g
@@ -153,8 +156,19 @@ module _ (ms maps : List Name) (base at k mark : ℕ) (f entry mid : List ℕ) (
             ∙ sym (level-is (drop at f) q) ∙ r.1),
       )
 
+  -- it has the name of a map
+  pub image-named : operation_at (drop at f) ≡ Operation.Image
+      → (g : Name) × (read_name (front (drop (mark + 1) f)) ≡ some g)
+  unfolding map_at read_plain
+  image-named q =
+      let P = (image_view q).3 in
+      let s : List ℕ = drop (mark + 1) f in (
+        P.first,
+        plain-named (front s) P.first (read_name (front s)) (map_view s P.first P.u (read_plain (front s)) P.read).0,
+      )
+
   pub image-begun : operation_at (drop at f) ≡ Operation.Image → mark < length f
-      → MapLooked maps f (mark + 1) k x → mid ≡ entry
+      → MapLooked maps f (mark + 1) k (some x) → mid ≡ entry
       → Begun ms maps base at k f entry mid x Operation.Image
   unfolding map_at read_plain term_found unknown_term operand_in operations unknown_formula value_of compiled written
   image-begun q l c m =
@@ -166,7 +180,7 @@ module _ (ms maps : List Name) (base at k mark : ℕ) (f entry mid : List ℕ) (
       let N : read_name (front s) ≡ some g = plain-named (front s) g (read_name (front s)) M.0 in
       let end : ℕ = mark + 1 + until is_mark s in
       let X : x ≡ compiled_of end (missing maps g) (Place (place_of g maps)) k =
-      c ∙ ap (λ (o : Option Name). let z = term_found maps (as_term o) in compiled_of end z.unknown z.operand k) N in
+      some-injective _ _ (c ∙ ap (λ (o : Option Name). o >>= λ h. some (looked end (term_found maps (name h)) k)) N) in
       let xe : x.end ≡ end = ap (λ (z : Compiled). z.end) X in
       let n : base + k + 0 ≡ base + k = omega arith in
       record {
@@ -196,19 +210,32 @@ module _ (ms maps : List Name) (base at k mark : ℕ) (f entry mid : List ℕ) (
             ++ operated Operation.Image (sym X i).operand (value_of ms (sym n i) P.second) ∷ []);
       }
 
+  -- there is an operand
+  pub operand-there : operation_at (drop at f) ≡ Operation.Operand
+      → (a : Term) × (read_term (take (mark - at) (drop at f)) ≡ some a)
+  unfolding level_for operand_at
+  operand-there q =
+      let a = go (read_term (front (drop at f))) (subst (Room k) (level-is (drop at f) q) room) in
+      (a.0, ap read_term (mark_front f at mark h e) ∙ a.1)
+    where
+      go : (o : Option Term) → Room k (o >>= λ a. some (operand a, rest (drop at f))) → (a : Term) × (o ≡ some a)
+      go none r = absurd r
+      go (some a) r = (a, refl)
+
   -- an operand
-  pub operand-compiled : operation_at (drop at f) ≡ Operation.Operand → TermLooked ms f at mark k x → mid ≡ entry
-      → Compiles ms maps base at k f entry mid x (parsed (drop at f))
+  pub operand-compiled : operation_at (drop at f) ≡ Operation.Operand → TermLooked ms f at mark k (some x)
+      → mid ≡ entry → Compiles ms maps base at k f entry mid x (parsed (drop at f))
   unfolding level_for operand_at term_found unknown_formula value_of operations compiled written
   operand-compiled q c m =
       subst (Compiles ms maps base at k f entry mid x) (sym (level-is (drop at f) q))
-      (go (read_term (front (drop at f))) (c ∙ ap (λ (z : List ℕ). compiled_of mark (term_found ms (read_term z)).unknown
-      (term_found ms (read_term z)).operand k) (mark_front f at mark h e)))
+      (go (read_term (front (drop at f))) (c ∙ ap (λ (z : List ℕ). read_term z >>= λ a. some (looked mark
+      (term_found ms a) k)) (mark_front f at mark h e)))
     where
-      go : (o : Option Term) → x ≡ compiled_of mark (term_found ms o).unknown (term_found ms o).operand k
+      go : (o : Option Term) → some x ≡ (o >>= λ a. some (looked mark (term_found ms a) k))
           → Compiles ms maps base at k f entry mid x (o >>= λ a. some (operand a, rest (drop at f)))
       go none X = tt
-      go (some a) X =
+      go (some a) Y =
+          let X = some-injective _ _ Y in
           let end : x.end ≡ mark = ap (λ (z : Compiled). z.end) X in
           record {
             from = omega (arith, end);

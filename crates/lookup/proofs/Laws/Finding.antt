@@ -3,139 +3,95 @@
 use Prim.Native.Nat.{ℕ, ◌≤◌}
 use native.Mathlib.Omega.{arith}
 use mathlib.Core.Path.{◌≡◌, refl, sym, ◌∙◌, ap}
-use mathlib.Core.Bool.{true, false}
+use mathlib.Core.Bool.{Bool, false, not}
 use mathlib.Core.List.{List}
-use mathlib.Core.Option.{Option, none, some}
+use lib.ListN.{length}
+use Rattle.std.specs.Prelude.{Option, is_some, unwrap_or}
 use Rattle.grammar.specs.declared.line.NameRef.{NameRef}
-use Rattle.grammar.specs.declared.line.NameRead.{NameRead}
-use Rattle.grammar.specs.declared.line.TermRead.{TermRead}
+use Rattle.grammar.specs.declared.line.TermRef.{TermRef}
 use Rattle.grammar.specs.declared.formula.Operation.{Operation}
 use Rattle.grammar.specs.declared.record.Binary.{Binary}
 use Rattle.grammar.specs.declared.record.Binary.TheVariants.{Xor, Mul}
 use Rattle.grammar.specs.declared.record.FormRead.{FormRead}
-use Rattle.tokens.specs.Token.{◌>>=◌, Name, Term}
-use Rattle.grammar.specs.Record.{set, app}
-use Rattle.grammar.specs.Line.{name_in, name_at, term_at}
-use Rattle.grammar.specs.Recorded.{binary, form_at}
+use Rattle.tokens.specs.Token.{Name, name}
+use Rattle.grammar.specs.Record.{Form, set, xor, mul, app, rand}
+use Rattle.grammar.specs.Line.{name_in, term_in}
+use Rattle.grammar.specs.Recorded.{form_in}
 use Rattle.rules.specs.declared.types.Operand.TheVariants.{Place, Byte}
 use Rattle.rules.specs.declared.types.Op.{Op}
-use Rattle.lookup.specs.declared.names.Names.{Names}
-use Rattle.lookup.specs.declared.scope.NameFound.{NameFound}
 use Rattle.lookup.specs.declared.scope.TermFound.{TermFound}
 use Rattle.lookup.specs.declared.scope.FormFound.{FormFound}
 use Rattle.rules.specs.Scope.{unknown_term, operand_in, unknown_form, op_in, drawn}
-use Rattle.lookup.specs.Names.{names_in}
-use Rattle.lookup.specs.Found.{name_found, term_found, as_term, pair_found, PairIs, form_told, told_in, FormIs}
+use Rattle.lookup.specs.Found.{name_found, term_found, pair_found, form_found}
+use Rattle.lookup.proofs.Laws.Placing.{found-missing, found-place}
 
 -- ---- names and operands
 
-module _ (s : List ℕ) (ms : List Name) {a : TermRead} where
+module _ (s : List ℕ) (ms : List Name) {a : TermRef} where
   -- an operand that is a name
-  pub term-name : (n : NameRef) → a ≡ TermRead.Name n → {x : NameFound} → x ≡ name_found ms (name_in s n)
-      → ◌≡◌ {A = TermFound} (record { ok = true; unknown = x.unknown; operand = Place x.place })
-      (term_found ms (term_at s a))
-  unfolding name_found term_found unknown_term operand_in
-  term-name n e q =
-      (λ i. record { ok = true; unknown = (q i).unknown; operand = Place (q i).place })
-      ∙ ap (λ (y : TermRead). term_found ms (term_at s y)) (sym e)
+  pub term-name : (n : NameRef) → a ≡ TermRef.Name n → {x : Option ℕ} → x ≡ name_found ms (name_in s n)
+      → (u : Bool) → is_some x ≡ not u → (count : ℕ) → count ≡ length ms → {p : ℕ} → p ≡ unwrap_or x count
+      → ◌≡◌ {A = TermFound} (record { unknown = u; operand = Place p }) (term_found ms (term_in s a))
+  unfolding term_found unknown_term operand_in
+  term-name n e q u h count l p =
+      let missed = found-missing ms (name_in s n) q u h in
+      let placed = p ∙ found-place ms (name_in s n) q l in
+      (λ i. record { unknown = missed i; operand = Place (placed i) })
+      ∙ ap (λ (y : TermRef). term_found ms (term_in s y)) (sym e)
 
   -- an operand that is a constant
-  pub term-byte : (v : ℕ) → a ≡ TermRead.Byte v
-      → ◌≡◌ {A = TermFound} (record { ok = true; unknown = false; operand = Byte v }) (term_found ms (term_at s a))
+  pub term-byte : (v : ℕ) → a ≡ TermRef.Byte v
+      → ◌≡◌ {A = TermFound} (record { unknown = false; operand = Byte v }) (term_found ms (term_in s a))
   unfolding term_found unknown_term operand_in
-  term-byte v e = ap (λ (y : TermRead). term_found ms (term_at s y)) (sym e)
-
-  -- no operand
-  pub term-bad : a ≡ TermRead.Bad
-      → ◌≡◌ {A = TermFound} (record { ok = false; unknown = false; operand = Byte 0 }) (term_found ms (term_at s a))
-  unfolding term_found
-  term-bad e = ap (λ (y : TermRead). term_found ms (term_at s y)) (sym e)
+  term-byte v e = ap (λ (y : TermRef). term_found ms (term_in s y)) (sym e)
 
 -- ---- forms
 
--- the form made of what was found
-abbrev set_of : TermFound → FormFound
-set_of x = record { ok = x.ok; unknown = x.unknown; op = Op.Set x.operand; drawn = 0 }
+drawn_few : (y : Form) → drawn y ≤ 1
+unfolding drawn
+drawn_few (set a) = omega arith
+drawn_few (xor a b) = omega arith
+drawn_few (mul a b) = omega arith
+drawn_few (app f a) = omega arith
+drawn_few rand = omega arith
 
-module _ (ms maps : List Name) (v : ℕ) where
-  set-read : (o : Option Term) → told_in (set_of (term_found ms o)) ≡ form_told ms maps v (o >>= λ x. some (set x))
-  unfolding told_in form_told term_found unknown_form op_in drawn
-  set-read none = refl
-  set-read (some x) = refl
+-- a statement draws one variable at most
+pub form_few : (ms maps : List Name) (v : ℕ) (y : Form) {r : FormFound} → r ≡ form_found ms maps v y → r.drawn ≤ 1
+unfolding form_found
+form_few ms maps v y q = omega (arith, ap (λ (z : FormFound). z.drawn) q, drawn_few y)
 
-  two-read : (o p : Option Term) (f : Binary)
-      → told_in (pair_found (Operation.Two f) (term_found ms o) (term_found ms p))
-      ≡ form_told ms maps v (o >>= λ x. p >>= λ y. some (binary f x y))
-  unfolding told_in form_told term_found pair_found unknown_form op_in drawn
-  two-read none none f = refl
-  two-read none (some y) f = refl
-  two-read (some x) none f = refl
-  two-read (some x) (some y) Xor = refl
-  two-read (some x) (some y) Mul = refl
+module _ (s : List ℕ) (ms maps : List Name) (v : ℕ) {f : FormRead} where
+  -- a form as a match knows it
+  form-known : {g : FormRead} {r : FormFound} → f ≡ g → r ≡ form_found ms maps v (form_in s g)
+      → r ≡ form_found ms maps v (form_in s f)
+  form-known e q = q ∙ ap (λ (x : FormRead). form_found ms maps v (form_in s x)) (sym e)
 
-  app-read : (o : Option Name) (p : Option Term)
-      → told_in (pair_found Operation.Image (term_found maps (as_term o)) (term_found ms p))
-      ≡ form_told ms maps v (o >>= λ g. p >>= λ a. some (app g a))
-  unfolding told_in form_told term_found unknown_term operand_in pair_found unknown_form op_in drawn
-  app-read none none = refl
-  app-read none (some y) = refl
-  app-read (some x) none = refl
-  app-read (some x) (some y) = refl
+  -- `set`, from its operand
+  pub set_form : (a : TermRef) → f ≡ FormRead.Set a → {x : TermFound} → x ≡ term_found ms (term_in s a)
+      → ◌≡◌ {A = FormFound} (record { unknown = x.unknown; op = Op.Set x.operand; drawn = 0 })
+      (form_found ms maps v (form_in s f))
+  unfolding form_found term_found unknown_form op_in drawn
+  set_form a e q =
+      form-known e (λ i. record { unknown = (q i).unknown; op = Op.Set (q i).operand; drawn = 0 })
 
--- an operation on two operands draws no variable
-pair-few : (o : Operation) (x y : TermFound) {r : FormFound} → r ≡ pair_found o x y → r.drawn ≤ 1
-unfolding pair_found
-pair-few o x y q = omega (arith, ap (λ (z : FormFound). z.drawn) q)
+  -- `xor` and `mul`, from their operands
+  pub two-form : (g : Binary) (a b : TermRef) → f ≡ FormRead.Two g a b → {r : FormFound}
+      → r ≡ pair_found (Operation.Two g) (term_found ms (term_in s a)) (term_found ms (term_in s b))
+      → r ≡ form_found ms maps v (form_in s f)
+  unfolding form_found term_found pair_found unknown_form op_in drawn
+  two-form Xor a b e q = form-known e q
+  two-form Mul a b e q = form-known e q
 
-module _ (s t : List ℕ) (ns maps : Names) (v : ℕ) where
-  module _ {f : FormRead} where
-    -- the form is known
-    pub form-known : {g : FormRead} {r : FormFound} → f ≡ g → FormIs s t ns maps v g r → FormIs s t ns maps v f r
-    form-known e E =
-        record {
-          few = E.few;
-          told =
-              E.told ∙ ap (λ (x : FormRead). form_told (names_in s t ns) (names_in s t maps) v (form_at s x)) (sym e);
-        }
+  -- `app`, from its map and its operand
+  pub app-form : (g : NameRef) (a : TermRef) → f ≡ FormRead.App g a → {r : FormFound}
+      → r ≡ pair_found Operation.Image (term_found maps (name (name_in s g))) (term_found ms (term_in s a))
+      → r ≡ form_found ms maps v (form_in s f)
+  unfolding form_found term_found unknown_term operand_in pair_found unknown_form op_in drawn
+  app-form g a e q = form-known e q
 
-    -- `set`, from its operand
-    pub set_found : (a : TermRead) → f ≡ FormRead.Set a → {x : TermFound} → x ≡ term_found (names_in s t ns) (term_at s a)
-        → FormIs s t ns maps v f (set_of x)
-    set_found a e q =
-        form-known e
-        (record {
-          few = omega arith;
-          told =
-              ap (λ (y : TermFound). told_in (set_of y)) q ∙ set-read (names_in s t ns) (names_in s t maps) v (term_at s a);
-        })
-
-    -- `xor` and `mul`, from their operands
-    pub two-found : (g : Binary) (a b : TermRead) → f ≡ FormRead.Two g a b
-        → {r : FormFound} → PairIs s t ns ns (Operation.Two g) a b r → FormIs s t ns maps v f r
-    two-found g a b e q =
-        form-known e
-        (record {
-          few = pair-few _ _ _ q;
-          told = ap told_in q ∙ two-read (names_in s t ns) (names_in s t maps) v (term_at s a) (term_at s b) g;
-        })
-
-    -- `app`, from its map and its operand
-    pub app-found : (g : NameRead) (a : TermRead) → f ≡ FormRead.App g a
-        → (x : TermRead) → term_at s x ≡ as_term (name_at s g)
-        → {r : FormFound} → PairIs s t maps ns Operation.Image x a r → FormIs s t ns maps v f r
-    app-found g a e x h q =
-        let y = term_found (names_in s t ns) (term_at s a) in
-        form-known e
-        (record {
-          few = pair-few _ _ _ q;
-          told =
-              ap told_in q
-              ∙ ap (λ (o : Option Term). told_in (pair_found Operation.Image (term_found (names_in s t maps) o) y)) h
-              ∙ app-read (names_in s t ns) (names_in s t maps) v (name_at s g) (term_at s a);
-        })
-
-    -- `rand`
-    pub rand-found : f ≡ FormRead.Rand
-        → FormIs s t ns maps v f (record { ok = true; unknown = false; op = Op.Rand v; drawn = 1 })
-    unfolding told_in form_told unknown_form op_in drawn
-    rand-found e = form-known e (record { few = omega arith; told = refl })
+  -- `rand`
+  pub rand-form : f ≡ FormRead.Rand
+      → ◌≡◌ {A = FormFound} (record { unknown = false; op = Op.Rand v; drawn = 1 })
+      (form_found ms maps v (form_in s f))
+  unfolding form_found unknown_form op_in drawn
+  rand-form e = form-known e refl

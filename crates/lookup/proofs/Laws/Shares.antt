@@ -8,7 +8,7 @@ use lib.ListN.{length}
 use Rattle.grammar.specs.declared.line.NameRef.{NameRef}
 use Rattle.tokens.specs.Token.{Name}
 use Rattle.grammar.specs.Line.{name_in}
-use Rattle.rules.specs.Limits.{most_entries, most_numbers}
+use Rattle.rules.specs.Limits.{most_entries}
 use Rattle.rules.specs.Scope.{share_names}
 use Rattle.lookup.specs.Names.{listed, put, put_shares}
 use Rattle.lookup.proofs.Laws.Named.{put-length, listed-apart, listed_next}
@@ -27,7 +27,7 @@ share-last x i (suc k) =
     ap (λ (ns : List Name). record { base = x.base; part = i } ∷ ns)
     (share-last x (i + 1) k ∙ ap (λ (p : ℕ). share_names x (i + 1) k ++ record { base = x.base; part = p } ∷ []) e)
 
-module _ (t : List ℕ) (at : ℕ) (x : NameRef) where
+module _ (t : List NameRef) (at : ℕ) (x : NameRef) where
   -- share k of x
   share : ℕ → NameRef
   share k = record { at = x.at; len = x.len; part = k }
@@ -49,8 +49,8 @@ module _ (t : List ℕ) (at : ℕ) (x : NameRef) where
       ∙ shares-apart s from n k (λ i a b c d. h i a b c (omega arith))
 
 -- the shares of x stored behind the others are so many names more
-pub listed-shares : (s t : List ℕ) (x : NameRef) (from n k : ℕ) → from + n + k ≤ most_entries
-    → length t ≡ most_numbers
+pub listed-shares : (s : List ℕ) (t : List NameRef) (x : NameRef) (from n k : ℕ) → from + n + k ≤ most_entries
+    → length t ≡ most_entries
     → listed s (put_shares t (from + n) x k) from (n + k) ≡ listed s t from n ++ share_names (name_in s x) 0 k
 unfolding put_shares share_names name_in
 listed-shares s t x from n zero h l =

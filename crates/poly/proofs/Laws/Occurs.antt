@@ -25,7 +25,7 @@ use Rattle.poly.proofs.Laws.Unique.{terms_unique_spare}
 
 -- neither of two
 or_false : (a b : Bool) → a || b ≡ false → (a ≡ false) × (b ≡ false)
-or_false true b h = let z : ◌≡◌ {A = ℕ} 0 1 = cc in absurd (omega arith)
+or_false true b h = cc
 or_false false b h = (refl, h)
 
 -- a variable that does not occur has no power in the first term, and does not occur in the others

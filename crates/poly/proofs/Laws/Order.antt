@@ -9,33 +9,13 @@ use Rattle.poly.specs.Poly.{or_else, order}
 
 -- ---- the three answers are different
 
--- the answer is `lt`
-abbrev IsLt : Ordering → Type 0
-IsLt Ordering.lt = Unit {0}
-IsLt Ordering.eq = ⊥
-IsLt Ordering.gt = ⊥
-
--- the answer is `eq`
-abbrev IsEq : Ordering → Type 0
-IsEq Ordering.lt = ⊥
-IsEq Ordering.eq = Unit {0}
-IsEq Ordering.gt = ⊥
-
--- the three answers differ
+-- `eq` is not `lt`
 pub eq≢lt : Ordering.eq ≡ Ordering.lt → ⊥
-eq≢lt h = subst IsEq h tt
+eq≢lt h = cc
 
 -- `gt` is not `lt`
 pub gt≢lt : Ordering.gt ≡ Ordering.lt → ⊥
-gt≢lt h = subst IsLt (sym h) tt
-
--- `lt` is not `eq`
-pub lt≢eq : Ordering.lt ≡ Ordering.eq → ⊥
-lt≢eq h = subst IsLt h tt
-
--- `gt` is not `eq`
-pub gt≢eq : Ordering.gt ≡ Ordering.eq → ⊥
-gt≢eq h = subst IsEq (sym h) tt
+gt≢lt h = cc
 
 -- ---- numbers
 
@@ -45,10 +25,10 @@ compare_self zero = compare.zero-zero
 compare_self (suc a) = compare.suc-suc a a ∙ compare_self a
 
 -- numbers that compare as equal are the same
-compare_same : (a b : ℕ) → compare a b ≡ Ordering.eq → a ≡ b
+pub compare_same : (a b : ℕ) → compare a b ≡ Ordering.eq → a ≡ b
 compare_same zero zero h = refl
-compare_same zero (suc b) h = absurd (lt≢eq (sym (compare.zero-suc b) ∙ h))
-compare_same (suc a) zero h = absurd (gt≢eq (sym (compare.suc-zero a) ∙ h))
+compare_same zero (suc b) h = cc (compare.zero-suc b)
+compare_same (suc a) zero h = cc (compare.suc-zero a)
 compare_same (suc a) (suc b) h = ap suc (compare_same a b (sym (compare.suc-suc a b) ∙ h))
 
 -- the answer from the other side: what comes first comes behind
@@ -67,11 +47,11 @@ compare-turned (suc a) (suc b) =
 
 -- below, and below again
 compare_trans : (a b c : ℕ) → compare a b ≡ Ordering.lt → compare b c ≡ Ordering.lt → compare a c ≡ Ordering.lt
-compare_trans zero zero c h k = absurd (eq≢lt (sym compare.zero-zero ∙ h))
-compare_trans (suc a) zero c h k = absurd (gt≢lt (sym (compare.suc-zero a) ∙ h))
-compare_trans zero (suc b) zero h k = absurd (gt≢lt (sym (compare.suc-zero b) ∙ k))
+compare_trans zero zero c h k = cc compare.zero-zero
+compare_trans (suc a) zero c h k = cc (compare.suc-zero a)
+compare_trans zero (suc b) zero h k = cc (compare.suc-zero b)
 compare_trans zero (suc b) (suc c) h k = compare.zero-suc c
-compare_trans (suc a) (suc b) zero h k = absurd (gt≢lt (sym (compare.suc-zero b) ∙ k))
+compare_trans (suc a) (suc b) zero h k = cc (compare.suc-zero b)
 compare_trans (suc a) (suc b) (suc c) h k =
     compare.suc-suc a c ∙ compare_trans a b c (sym (compare.suc-suc a b) ∙ h) (sym (compare.suc-suc b c) ∙ k)
 
@@ -87,7 +67,7 @@ or_else_eq Ordering.gt = refl
 lt_cases : (o r : Ordering) → or_else o r ≡ Ordering.lt → (o ≡ Ordering.lt) ⊎ ((o ≡ Ordering.eq) × (r ≡ Ordering.lt))
 lt_cases Ordering.lt r h = inl refl
 lt_cases Ordering.eq r h = inr (refl, h)
-lt_cases Ordering.gt r h = absurd (gt≢lt h)
+lt_cases Ordering.gt r h = cc
 
 -- both answers from the other side
 or_else-turned : (o r : Ordering) → or_else (turned o) (turned r) ≡ turned (or_else o r)
@@ -97,9 +77,9 @@ or_else-turned Ordering.gt r = refl
 
 -- equal answers are equal twice
 eq_cases : (o r : Ordering) → or_else o r ≡ Ordering.eq → (o ≡ Ordering.eq) × (r ≡ Ordering.eq)
-eq_cases Ordering.lt r h = absurd (lt≢eq h)
+eq_cases Ordering.lt r h = cc
 eq_cases Ordering.eq r h = (refl, h)
-eq_cases Ordering.gt r h = absurd (gt≢eq h)
+eq_cases Ordering.gt r h = cc
 
 -- the same first answer gives the same answer
 tail_decides : {o o' : Ordering} (r : Ordering) → o ≡ o' → or_else o r ≡ or_else o' r
@@ -113,8 +93,8 @@ order_self (a ∷ e) = tail_decides (compare a a) (order_self e) ∙ compare_sel
 -- powers that compare as equal are the same list
 pub order_same : (e f : List ℕ) → order e f ≡ Ordering.eq → e ≡ f
 order_same [] [] h = refl
-order_same [] (b ∷ f) h = absurd (lt≢eq h)
-order_same (a ∷ e) [] h = absurd (gt≢eq h)
+order_same [] (b ∷ f) h = cc
+order_same (a ∷ e) [] h = cc
 order_same (a ∷ e) (b ∷ f) h =
     let c = eq_cases (order e f) (compare a b) h in ap₂ ◌∷◌ (compare_same a b c.1) (order_same e f c.0)
 
@@ -136,11 +116,11 @@ order_lt e f h = order-turned e f ∙ ap turned h
 
 -- before, and before again
 pub order_trans : (e f g : List ℕ) → order e f ≡ Ordering.lt → order f g ≡ Ordering.lt → order e g ≡ Ordering.lt
-order_trans [] [] g h k = absurd (eq≢lt h)
-order_trans [] (b ∷ f) [] h k = absurd (gt≢lt k)
+order_trans [] [] g h k = cc
+order_trans [] (b ∷ f) [] h k = cc
 order_trans [] (b ∷ f) (c ∷ g) h k = refl
-order_trans (a ∷ e) [] g h k = absurd (gt≢lt h)
-order_trans (a ∷ e) (b ∷ f) [] h k = absurd (gt≢lt k)
+order_trans (a ∷ e) [] g h k = cc
+order_trans (a ∷ e) (b ∷ f) [] h k = cc
 order_trans (a ∷ e) (b ∷ f) (c ∷ g) h k =
     go (order_trans e f g) (lt_cases (order e f) (compare a b) h) (lt_cases (order f g) (compare b c) k)
   where

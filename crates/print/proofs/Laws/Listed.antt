@@ -1,19 +1,16 @@
 -- The bytes that judge lists are as many as its verdict lists, for the variables of the text.
 -- Assumes nothing.
 use mathlib.Core.Path.{◌≡◌, refl, sym, ap, ◌∙◌, subst}
-use Prim.Native.Nat.{ℕ, ◌≤◌}
+use Prim.Native.Nat.{ℕ}
 use native.Mathlib.Omega.{arith}
-use mathlib.Core.Bool.{Bool, true, false, cond}
+use mathlib.Core.Bool.{Bool, true, false}
 use mathlib.Core.List.{List}
-use lib.Dec.{eqb}
+use Rattle.std.specs.Prelude.{Ok, Err}
 use lib.ListN.{length, take, drop}
 use lib.Seq.{take-append_seam}
 use Rattle.rules.specs.Read.{Routine, Reading, accepted, read_text}
-use Rattle.text.specs.declared.read.Reading as answer
 use Rattle.text.specs.Routine.{routine_of}
-use Rattle.text.specs.Reading.{reading_of, ReadingIs}
-use Rattle.verdict.specs.declared.report.Verdict.{Verdict}
-use Rattle.verdict.specs.declared.report.Verdict.TheVariants.{Equal, Differs, Unknown, Refused, Found}
+use Rattle.text.specs.Reading.{Answer, reading_of, ReadingIs}
 use Rattle.verdict.specs.declared.report.Trials.{Trials}
 use Rattle.verdict.specs.Judge.{Outcome, refused, equal, differs, unknown, found, report, list_after, fronted}
 use Rattle.verdict.specs.Judge.{short, too_many, outcome}
@@ -22,19 +19,7 @@ use Rattle.verdict.specs.Print.{listed_bytes}
 use Rattle.verdict.proofs.Laws.Bytes.{bytes-length}
 use Rattle.verdict.proofs.Verdict.{finds_bytes}
 use Rattle.verdict.proofs.Text.{outcome-claims}
-use Rattle.print.specs.Line.{listed_with}
-
--- no more than the variables
-pub listed_le : (d : Verdict) (v : ℕ) → listed_with d v ≤ v
-listed_le Equal v = omega arith
-listed_le Differs v = omega arith
-listed_le Unknown v = omega arith
-listed_le Refused v = omega arith
-listed_le Found v = omega arith
-
--- the number of a verdict that is told
-pub listed-told : {d e : Verdict} (v : ℕ) → d ≡ e → listed_with e v ≡ listed_with d v
-listed-told v h = ap (λ (x : Verdict). listed_with x v) (sym h)
+use Rattle.print.specs.Line.{listed_with, variables_in}
 
 -- ---- what an outcome lists
 
@@ -67,23 +52,19 @@ in_sized false false t (Reading.accepted r) o c v h =
 
 -- ---- the variables of a text are those that reading gives
 
-variables-read : (d : answer.Reading) (r : Routine) → reading_of d ≡ accepted r → d.routine.variables ≡ r.variables
-unfolding reading_of routine_of
-variables-read d r = go (eqb d.refusal 0)
-  where
-    go : (b : Bool) → cond b (accepted (routine_of d.routine)) (Reading.refused d.refusal d.line) ≡ accepted r
-        → d.routine.variables ≡ r.variables
-    go true e = let f : routine_of d.routine ≡ r = cc in ap (λ (p : Routine). p.variables) f
-    go false e = let z : ◌≡◌ {A = ℕ} 0 1 = cc in absurd (omega arith)
+variables-read : (d : Answer) (r : Routine) → reading_of d ≡ accepted r → variables_in d ≡ r.variables
+unfolding routine_of
+variables-read (Ok x) r e = let f : routine_of x ≡ r = cc in ap (λ (p : Routine). p.variables) f
+variables-read (Err x) r e = let z : ◌≡◌ {A = ℕ} 0 1 = cc in absurd (omega arith)
 
 -- THEOREM: what comes of a text lists as many bytes as its verdict does, for the variables that reading gives
-pub outcome-sized : (t : Trials) (left right list : ℕ) (text : List ℕ) (d : answer.Reading)
+pub outcome-sized : (t : Trials) (left right list : ℕ) (text : List ℕ) (d : Answer)
     → ReadingIs d (read_text text)
     → length (listed_bytes (outcome t left right list text))
-    ≡ listed_with (report (outcome t left right list text)).verdict d.routine.variables
+    ≡ listed_with (report (outcome t left right list text)).verdict (variables_in d)
 outcome-sized t left right list text d R =
     in_sized (short left right list) (too_many t) t (read_text text) (outcome t left right list text)
-    (outcome-claims t left right list text) d.routine.variables (λ r e. variables-read d r (R.answer ∙ e))
+    (outcome-claims t left right list text) (variables_in d) (λ r e. variables-read d r (R.answer ∙ e))
 
 -- ---- the list that judge leaves
 

@@ -1,19 +1,15 @@
 -- Pieces put one behind the other: two of them are one put of both. It turns on `put-join`.
 -- Assumes nothing.
 use mathlib.Core.Path.{◌≡◌, refl, ap, sym, ◌∙◌, subst}
-use Prim.Native.Nat.{ℕ, ◌+◌, ◌≤◌, ◌<◌}
+use Prim.Native.Nat.{ℕ, ◌+◌, ◌-◌, ◌≤◌}
 use native.Mathlib.Omega.{arith}
-use native.Mathlib.Numerals.{add-one}
-use native.Mathlib.Nat.{add-zero, add_assoc}
-use mathlib.Core.List.{List, [], ◌∷◌, ◌++◌, append_assoc, append-nil}
-use lib.ListN.{length, take, drop, set, length-append, length-drop, take-append-drop}
-use lib.Seq.{length-take-le, take_at, drop_at, set_split, drop-drop}
+use native.Mathlib.Nat.{add_assoc}
+use mathlib.Core.List.{List, ◌++◌, append_assoc}
+use lib.ListN.{length, take, drop, length-append, length-drop}
+use lib.Seq.{length-take-le, take_all, take_at, drop_at, drop-drop}
+use borrow.Rule.Slice.PartMut.{put_mid}
+use Rattle.std.proofs.lemmas.Slice.{put_mid-paste}
 use Rattle.print.specs.Line.{written, Put}
-
--- the sum of a list of lengths
-abbrev sum : List ℕ → ℕ
-sum [] = 0
-sum (k ∷ ks) = k + sum ks
 
 -- what stands before the place and the piece, together
 length_front : (o : List ℕ) (at : ℕ) (p : List ℕ) → at ≤ length o → length (take at o ++ p) ≡ at + length p
@@ -26,23 +22,17 @@ written-length o at p h =
     let f : length (take at o ++ p) ≡ at + length p = length_front o at p (omega arith) in
     omega (arith, f, length-append (take at o ++ p) (drop (at + length p) o), length-drop (at + length p) o)
 
--- no piece: nothing is changed
-pub put-none : (o : List ℕ) (at : ℕ) → at ≤ length o → Put o at [] at o
+-- bytes copied over a part
+pub put_part : (o : List ℕ) (at : ℕ) (p : List ℕ) {w : List ℕ} → w ≡ p → at + length p ≤ length o
+    → Put o at p (at + length p) (put_mid at (at + length p - at) o w)
 unfolding written
-put-none o at h = record {
-  fits = omega arith;
-  moved = sym (add-zero at);
-  placed = sym (rw (append-nil, add-zero, take-append-drop));
-}
-
--- one byte: a store
-pub put_one : (o : List ℕ) (at b : ℕ) → at < length o → Put o at (b ∷ []) (at + 1) (set o at b)
-unfolding written
-put_one o at b h = record {
-  fits = omega arith;
-  moved = refl;
-  placed = rw (set_split, append_assoc, add-one);
-}
+put_part o at p {w} e h =
+    record {
+      fits = h;
+      moved = refl;
+      placed = put_mid-paste at (at + length p - at) o w p (length p) e (omega arith) refl
+          ∙ ap (λ (l : List ℕ). take at o ++ l ++ drop (at + length p) o) (take_all (length p) p (omega arith));
+    }
 
 -- what stands before the place behind a piece
 take-written : (o : List ℕ) (at : ℕ) (p : List ℕ) → at ≤ length o
@@ -87,32 +77,3 @@ put-length {o} {x} {p} {at} {r} f = ap length f.placed ∙ written-length o at p
 -- what was put, by another name
 pub put_as : {o x p q : List ℕ} {at r : ℕ} → p ≡ q → Put o at p r x → Put o at q r x
 put_as {o} {x} {p} {q} {at} {r} e f = subst (λ (l : List ℕ). Put o at l r x) e f
-
--- room for all bytes is room for the next one
-pub take-room : (bs : List ℕ) (i : ℕ) {o x : List ℕ} {at m : ℕ} → Put o at (take i bs) m x
-    → at + length bs ≤ length o → i < length bs → m < length x
-take-room bs i {o} {x} {at} {m} f room h =
-    let l : length (take i bs) ≡ i = length-take-le i bs (omega arith) in
-    omega (arith, f.moved, put-length f)
-
--- ---- room for the pieces to come
-
--- the buffer has room from a place on for pieces of these lengths
-pub record Room (o : List ℕ) (at : ℕ) (ks : List ℕ) : Type 0 where
-  pub room : at + sum ks ≤ length o
-
--- for the next piece
-pub room-here : {o ks : List ℕ} {at k : ℕ} → Room o at (k ∷ ks) → at + k ≤ length o
-room-here r = omega (arith, r.room)
-
--- for one more byte
-pub room-byte : {o ks : List ℕ} {at : ℕ} → Room o at (1 ∷ ks) → at < length o
-room-byte r = omega (arith, r.room)
-
--- for the other pieces, once the next is put
-pub room_after : {o x p ks : List ℕ} {at m : ℕ} → Put o at p m x → Room o at (length p ∷ ks) → Room x m ks
-room_after f r = record { room = omega (arith, r.room, f.moved, put-length f) }
-
--- for the first piece, at the buffer's front
-pub room-front : {o ks : List ℕ} {k : ℕ} → Room o 0 (k ∷ ks) → k ≤ length o
-room-front r = omega (arith, r.room)

@@ -1,49 +1,60 @@
 -- `print::line` meets its contract. Assumes nothing.
-use Rattle.print.specs.Line.{line_of}
-use Rattle.print.proofs.Laws.Put.{put_as, put-join, room-front, room-here, room-byte, room_after}
-use Rattle.print.proofs.Laws.Line.{line-room, head_over, bytes-over, formed-short, formed-whole, line-parts}
+use mathlib.Core.Path.{ap, sym, ◌∙◌}
+use Prim.Native.Nat.{ℕ}
+use mathlib.Core.List.{List, [], ◌∷◌, append-nil}
+use lib.ListN.{length, get_or}
+use native.Mathlib.Omega.{arith}
+use Rattle.print.proofs.Laws.Put.{put_as, put-join, put-length}
+use Rattle.print.proofs.Laws.Line.{hexes-length, hexes-none, line-front, line-next, line-whole, line-length}
+use Rattle.print.proofs.Laws.Line.{formed-short, formed-whole}
 use Rattle.print.proofs.line.Goals as goal
 
-pub returns-then-out-head : goal.returns-then-out-head
-returns-then-out-head c =
-    let a = c.args in
-    formed-short (line_of a.report a.bytes.now) a.out.now
-    (head_over a.report a.bytes.now a.out.now c.head_size-head.result
-    c.head_size-head.ensures.value c.if-out-head.true)
+pub returns-in_default : goal.returns-in_default
+returns-in_default c =
+    let whole = line-length c.args.report c.args.bytes.now in
+    formed-short _ _ (omega (arith, whole, ap length c.head-head.ensures, c.in_default.ensures))
 
-pub returns-then-out-head-2 : goal.returns-then-out-head-2
-returns-then-out-head-2 c =
-    let a = c.args in
-    formed-short (line_of a.report a.bytes.now) a.out.now
-    (bytes-over a.report a.bytes.now a.out.now c.head_size-head.result
-    c.head_size-head.ensures.value
-    c.if-out-head.false c.if-out-head-2.true)
+pub returns-then-room-bytes : goal.returns-then-room-bytes
+returns-then-room-bytes c =
+    let whole = line-length c.args.report c.args.bytes.now in
+    formed-short _ _ (omega (arith, whole, ap length c.head-head.ensures, c.in-Some.ensures))
 
-pub put_head-at-requires : goal.put_head-at-requires
-put_head-at-requires c =
-    let a = c.args in
-    room-front (line-room a.report a.bytes.now a.out.now c.head_size-head.result
-    c.head_size-head.ensures.value
-    c.if-out-head.false c.if-out-head-2.false)
+pub loop-byte-init : goal.loop-byte-init
+loop-byte-init c =
+    put_as (c.as_bytes.ensures.value ∙ c.as_str.ensures.value ∙ c.head-head.ensures ∙ sym (rw (hexes-none, append-nil)))
+    c.put-at.ensures
 
-pub put_hexes-end-requires : goal.put_hexes-end-requires
-put_hexes-end-requires c =
-    let a = c.args in
-    room-here (room_after c.put_head-at.ensures (line-room a.report a.bytes.now a.out.now
-    c.head_size-head.result c.head_size-head.ensures.value c.if-out-head.false
-    c.if-out-head-2.false))
+pub put-at-requires-in-loop-byte : goal.put-at-requires-in-loop-byte
+put-at-requires-in-loop-byte c =
+    let bytes : List ℕ = c.args.bytes.now in
+    let done = put-length c.loop-byte.invariant in
+    omega (
+      arith,
+      done,
+      c.in-Some.ensures,
+      ap length c.head-head.ensures,
+      ap length c.hex.ensures,
+      hexes-length (get_or bytes c.loop-byte.byte-index 0 ∷ []),
+      line-front c.args.report bytes c.loop-byte.byte-index (omega arith),
+    )
 
-pub put_byte-requires : goal.put_byte-requires
-put_byte-requires c =
-    let a = c.args in
-    room-byte (room_after c.put_hexes-end.ensures (room_after c.put_head-at.ensures
-    (line-room a.report a.bytes.now a.out.now
-    c.head_size-head.result c.head_size-head.ensures.value c.if-out-head.false
-    c.if-out-head-2.false)))
+pub loop-byte-preserved : goal.loop-byte-preserved
+loop-byte-preserved c =
+    put_as (line-next _ _ _ c.loop-byte-test.true c.hex.ensures)
+    (put-join c.loop-byte.invariant c.put-at-in-loop-byte.ensures)
+
+pub put-requires : goal.put-requires
+put-requires c =
+    let bytes : List ℕ = c.args.bytes.now in
+    let done = put-length c.loop-byte.invariant in
+    omega (
+      arith,
+      done,
+      c.in-Some.ensures,
+      ap length c.head-head.ensures,
+      line-front c.args.report bytes c.loop-byte.byte-index (omega arith),
+    )
 
 pub returns : goal.returns
 returns c =
-    let a = c.args in
-    formed-whole
-    (put_as (line-parts a.report a.bytes.now)
-    (put-join (put-join c.put_head-at.ensures c.put_hexes-end.ensures) c.put_byte.ensures))
+    formed-whole (put_as (line-whole _ _ _ (omega arith)) (put-join c.loop-byte.invariant c.put.ensures))

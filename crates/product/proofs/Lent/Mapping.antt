@@ -11,11 +11,11 @@ use lib.Seq.{drop-cons, drop-length}
 use Rattle.field.specs.Laws.{Ops, gf}
 use Rattle.field.proofs.Laws.Field.{gf_laws}
 use Rattle.poly.specs.Poly.{Poly, constant, into, normal, scale, square, linear_raw, map_poly}
-use Rattle.poly.specs.Canon.{Sorted, Canon, Raw}
+use Rattle.poly.specs.Canon.{Canon, Raw}
 use Rattle.poly.specs.Size.{one_if, nonzeros}
 use Rattle.buffer.specs.Buffer.{read_terms}
 use Rattle.poly.specs.Poly.{unless_zero}
-use Rattle.product.specs.Apply.{Constant, Squared, ScaledAsked, ScaledAdded, ApplyAsked, Applied}
+use Rattle.product.specs.Apply.{Constant, Squared, ScaledAdded, ApplyAsked, Applied}
 use Rattle.poly.proofs.Laws.Normal.{normal-canon}
 use Rattle.poly.proofs.Laws.Reduced.{canon-constant}
 use Rattle.buffer.proofs.Lent.Reads.{read_length}
@@ -40,12 +40,6 @@ pub record InApply (m c : ℕ) (ls b₀ src₀ : List ℕ) (k : ℕ) (t₀ b src
   pub left : normal (gf m) (linear_raw (gf m) (drop j ls) (read_terms (length t₀ - 1) src 0 k) ++ read_terms
       (length t₀ - 1) b 0 n)
       ≡ map_poly (gf m) (length t₀ - 1) c ls (read_terms (length t₀ - 1) src₀ 0 k)
-
--- room for the constant alone
-pub first-room : (m c : ℕ) (ls b src : List ℕ) (k : ℕ) (t : List ℕ) → ApplyAsked m c ls b src k t
-    → one_if c * length t ≤ length b
-first-room m c ls b src k t a =
-    omega (arith, a.room, mul-le-mul_right (length t) (le-add_right (one_if c) (nonzeros ls * k)))
 
 module _ (m c : ℕ) (ls : List ℕ) (src₀ : List ℕ) (k : ℕ) (t₀ : List ℕ) where
   -- the field
@@ -137,16 +131,6 @@ module _ (m c : ℕ) (ls : List ℕ) (src₀ : List ℕ) (k : ℕ) (t₀ : List 
       within : (n + one_if now_l * k) * w ≤ top
       within = mul-le-mul_right w (omega (arith, room_split))
 
-      -- what the next row asks
-      pub apply_asks : ScaledAsked b n now_l src k t
-      apply_asks = record {
-        some = omega (arith, h.asked.some, h.spare);
-        source = subst (λ (x : ℕ). k * x ≤ length src) (sym h.spare) (omega (arith, h.asked.source, h.source));
-        room = subst (λ (x : ℕ). (n + one_if now_l * k) * x ≤ length b) (sym h.spare)
-            (omega (arith, within, h.asked.room, h.size));
-        sorted = subst (λ (x : ℕ). Sorted (read_terms (x - 1) b 0 n)) (sym h.spare) h.canon.sorted;
-      }
-
       -- the row is inserted, and the terms are squared
       module _ (b' src' : List ℕ) (n' : ℕ) (S : ScaledAdded m b b' n now_l src k w n') (Q : Squared m src src' k w)
         where
@@ -178,7 +162,8 @@ module _ (m c : ℕ) (ls : List ℕ) (src₀ : List ℕ) (k : ℕ) (t₀ : List 
               (into-canon F L (unless_zero now_l (scale F now_l [] P)) D (unless-raw F L now_l P h.terms) h.canon)
 
           -- what the coefficients behind it still add gives the whole map
-          more_left : normal F (linear_raw F (drop (j + 1) ls) (read_terms (w - 1) src' 0 k) ++ read_terms (w - 1) b' 0 n')
+          more_left : normal F
+              (linear_raw F (drop (j + 1) ls) (read_terms (w - 1) src' 0 k) ++ read_terms (w - 1) b' 0 n')
               ≡ map_poly F (w - 1) c ls (read_terms (w - 1) src₀ 0 k)
           more_left =
               ap₂ (λ (x y : Poly). normal F (linear_raw F (drop (j + 1) ls) x ++ y)) Q.terms S.terms

@@ -13,7 +13,7 @@ use Rattle.buffer.specs.Buffer.{read_terms}
 use Rattle.buffer.specs.Move.{MovedUp, MovedDown}
 use Rattle.buffer.proofs.Lent.Reads.{read_same, read-shift, read-parts}
 use Rattle.buffer.proofs.Lent.Strides.{row_count}
-use Rattle.product.specs.Merge.{Merging, merged, StepAsked, SteppedAny, MergeAsked, MergedAny}
+use Rattle.product.specs.Merge.{Merging, merged, SteppedAny, MergeAsked, MergedAny}
 
 -- past its end a buffer holds what any other of its length does
 pub beyond : (b b' : List ℕ) → length b' ≡ length b → (x : ℕ) → length b ≤ x → get_or b' x 0 ≡ get_or b x 0
@@ -84,21 +84,6 @@ module _ (b₀ : List ℕ) (n at r w : ℕ) (b : List ℕ) (h : MergeAsked b₀ 
   merge_whole m = ap₂ (into (gf m)) piece_up sum-up
 
 module _ (b : List ℕ) (n at r w : ℕ) (b' : List ℕ) (k i j : ℕ) (h : InMerge b n at r w b' k i j) where
-  -- what the next step asks
-  pub merge_asks : j < at + r → StepAsked b' w k i at j
-  merge_asks l =
-      let g = h.left in
-      record {
-        some = g.some;
-        room = omega (arith, g.room);
-        sum = g.sum;
-        piece = g.piece;
-        fits = omega (arith, mul-le-mul_right w (next l), g.fits);
-      }
-    where
-      next : {x y : ℕ} → x < y → x + 1 ≤ y
-      next l = omega arith
-
   -- one step more
   pub merge_more : j < at + r → (b'' : List ℕ) (k' i' j' : ℕ) → SteppedAny b' b'' w at k i j k' i' j'
       → InMerge b n at r w b'' k' i' j'

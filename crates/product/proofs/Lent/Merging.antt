@@ -17,31 +17,10 @@ use Rattle.poly.proofs.Laws.Insert.{keep_some}
 use Rattle.poly.proofs.Laws.Merge.{merge_less, merge_more, merge_same}
 use Rattle.poly.proofs.Laws.Order.{gt≢lt, eq≢lt, order_same}
 use Rattle.buffer.proofs.Lent.Reads.{read_length, read_same, read-shift, read_more}
-use Rattle.buffer.proofs.Lent.Places.{answer_unique}
 use Rattle.buffer.proofs.Lent.Strides.{next_row}
 use Rattle.product.specs.Merge.{Merging, against, facing, Grown, Stepped}
 
 -- ---- which comes first
-
--- the order that an answer tells: 0 the piece's term comes first, 2 the sum's, else they have the same powers
-pub answer-told : (o : Ordering) (x : ℕ) → x ≡ answer o
-    → (x ≡ 0 → o ≡ Ordering.lt) × (x ≡ 2 → o ≡ Ordering.gt) × (x ≢ 0 → x ≢ 2 → o ≡ Ordering.eq)
-answer-told o x e = (
-  λ z. answer_unique o Ordering.lt (sym e ∙ z),
-  λ z. answer_unique o Ordering.gt (sym e ∙ z),
-  λ y z. rest o e y z,
-)
-  where
-    rest : (o : Ordering) → x ≡ answer o → x ≢ 0 → x ≢ 2 → o ≡ Ordering.eq
-    rest Ordering.lt e y z = absurd (y e)
-    rest Ordering.eq e y z = refl
-    rest Ordering.gt e y z = absurd (z e)
-
--- the sum is at its end
-pub facing_end : (b : List ℕ) (w i end j : ℕ) → i ≡ end → 0 ≡ answer (facing b w i end j)
-facing_end b w i end j e =
-    let z : 0 ≡ end - i = omega arith in
-    ap (λ (x : ℕ). answer (against (take (w - 1) (drop (suc (j * w)) b)) (read_terms (w - 1) b (i * w) x))) z
 
 -- a term of the sum is left
 pub facing-met : (b : List ℕ) (w i end j : ℕ) → 0 < w → i ≤ end → i ≢ end
@@ -246,7 +225,8 @@ module _ (F : Ops) {b : List ℕ} {w k i end j last : ℕ} (h : Merging b w k i 
         (record { ascends = (sum-sorted t).1; sorted = h.sorted; nonzero = h.nonzero })
         (ap₂ (into F) piece-next (sum-next t)
         ∙ merge_more F (get_or b (j * w) 0) (take (w - 1) (drop (suc (j * w)) b)) (pieces (j + 1))
-        (get_or b (i * w) 0) (take (w - 1) (drop (suc (i * w)) b)) (sums (i + 1)) (sym (facing-order t) ∙ o) piece-sorted
+        (get_or b (i * w) 0) (take (w - 1) (drop (suc (i * w)) b)) (sums (i + 1)) (sym (facing-order t) ∙ o)
+        piece-sorted
         ∙ ap {B = Poly} (λ (x : Poly). term_at (w - 1) b (i * w) ∷ into F x (sums (i + 1))) (sym piece-next))
 
     -- both have the same powers

@@ -4,7 +4,7 @@ use mathlib.Core.Path.{◌≡◌, sym, ap, ap₂, ◌∙◌, subst}
 use mathlib.Core.List.{List, []}
 use Prim.Native.Nat.{ℕ, suc, ◌+◌, ◌*◌, ◌-◌, ◌≤◌}
 use native.Mathlib.Omega.{arith}
-use native.Mathlib.Nat.{le-add_right, mul-le-mul_right, add-mul, zero-add}
+use native.Mathlib.Nat.{le-add_right, mul-le-mul_right, add-mul}
 use lib.ListN.{length}
 use Rattle.field.specs.Laws.{Ring, gf}
 use Rattle.poly.specs.Poly.{Poly, into}
@@ -15,7 +15,7 @@ use Rattle.buffer.specs.Buffer.{read_terms}
 use Rattle.buffer.proofs.Lent.Reads.{read_same}
 use Rattle.buffer.proofs.Lent.Strides.{row_count}
 use Rattle.buffer.proofs.Lent.Adding.{holds-count}
-use Rattle.product.specs.Product.{row_of, RowAsked, RowAdded, SumAsked, SumAdded}
+use Rattle.product.specs.Product.{row_of, RowAdded, SumAsked, SumAdded}
 use Rattle.product.specs.Merge.{MergeAsked, MergedAny}
 use Rattle.product.proofs.Lent.Parts.{part, part_length, returned, returned-size, returned-low, returned-read}
 use Rattle.product.proofs.Lent.Merged.{beyond}
@@ -42,11 +42,6 @@ module _ {b : List ℕ} {n : ℕ} {f src : List ℕ} {k w : ℕ} (h : SumAsked b
     h.row.room,
   )
 
-  -- the products are inserted
-  pub piece-inserted : (m : ℕ) {b' : List ℕ} {r : ℕ} → RowAdded m b b' n f src k w r → SumAdded m b b' n f src k w r
-  piece-inserted m g =
-      record { size = g.size; terms = g.terms; high = λ j l. g.high j (omega (arith, h.row.room)) }
-
   module _ (fits : to ≤ length b) where
     -- the lent part lies in order
     lies : from ≤ to
@@ -55,20 +50,6 @@ module _ {b : List ℕ} {n : ℕ} {f src : List ℕ} {k w : ℕ} (h : SumAsked b
     -- the lent part
     abbrev lent : List ℕ
     lent = part b from to
-
-    -- it has room for the piece
-    lent_length : length lent ≡ k * w
-    lent_length = part_length b from to lies fits ∙ omega arith
-
-    -- what the row of its own asks
-    pub piece_asks : RowAsked lent 0 f src k w
-    piece_asks = record {
-      some = h.row.some;
-      within = h.row.within;
-      source = h.row.source;
-      room = omega (arith, lent_length, ap (λ (x : ℕ). x * w) (zero-add k));
-      sorted = tt;
-    }
 
     module _ (m : ℕ) {x : List ℕ} {r : ℕ} (g : RowAdded m lent x 0 f src k w r) where
       -- the products

@@ -1,10 +1,9 @@
 -- A row: the products of a term and the terms of a polynomial, inserted one by one; and what a row leaves for the
 -- next. Assumes nothing.
-use mathlib.Core.Path.{◌≡◌, refl, sym, ap, ap₂, ◌∙◌, subst}
+use mathlib.Core.Path.{◌≡◌, sym, ap, ap₂, ◌∙◌, subst}
 use mathlib.Core.List.{List, [], ◌∷◌, ◌++◌}
-use Prim.Native.Nat.{ℕ, suc, ◌+◌, ◌*◌, ◌-◌, ◌≤◌, ◌<◌, zero-le}
+use Prim.Native.Nat.{ℕ, suc, ◌+◌, ◌*◌, ◌-◌, ◌≤◌, ◌<◌}
 use native.Mathlib.Omega.{arith}
-use native.Mathlib.Nat.{zero-mul}
 use native.Mathlib.Numerals.{add-one}
 use lib.ListN.{length, get_or, drop}
 use Rattle.field.specs.Laws.{Ops, Ring, gf}
@@ -17,8 +16,8 @@ use Rattle.poly.proofs.Laws.Size.{length-scale}
 use Rattle.poly.proofs.Laws.Sum.{into-sorted}
 use Rattle.poly.proofs.Laws.Insert.{scale_append, into-last, into-nonzero}
 use Rattle.buffer.proofs.Lent.Reads.{read_length, read_more}
-use Rattle.buffer.proofs.Lent.Strides.{row_end, next_row}
-use Rattle.buffer.proofs.Lent.Adding.{holds-start, more_asks, more-holds, row, row-length, row-coef, row-powers}
+use Rattle.buffer.proofs.Lent.Strides.{row_end}
+use Rattle.buffer.proofs.Lent.Adding.{more_asks, more-holds, row, row-coef, row-powers}
 
 -- ---- a row
 
@@ -32,26 +31,15 @@ row_of-length m f src at k w =
     length-scale (gf m) (get_or f 0 0) (drop 1 f) (read_terms (w - 1) src at k) ∙ read_length (w - 1) src at k
 
 -- the products of f and the terms of src before j are inserted
-pub record InRow (m : ℕ) (b₀ : List ℕ) (r : ℕ) (f src : List ℕ) (k w : ℕ) (b t : List ℕ) (n j at : ℕ) : Type 0 where
+pub record InRow (m : ℕ) (b₀ : List ℕ) (r : ℕ) (f src : List ℕ) (k w : ℕ) (b t : List ℕ) (n j : ℕ) : Type 0 where
   pub asked : RowAsked b₀ r f src k w
   pub most : j ≤ k
-  pub here : at ≡ j * w
   pub spare : length t ≡ w
   pub holds : Holds b₀ b w ((r + k) * w) n
       (into (gf m) (row_of m f (read_terms (w - 1) src 0 j)) (read_terms (w - 1) b₀ 0 r))
 
 module _ {m : ℕ} {b₀ : List ℕ} {r : ℕ} {f src : List ℕ} {k : ℕ} where
-  -- at first no product is inserted
-  pub row-start : {t : List ℕ} → RowAsked b₀ r f src k (length t) → InRow m b₀ r f src k (length t) b₀ t r 0 0
-  row-start {t} a = record {
-    asked = a;
-    most = zero-le;
-    here = sym (zero-mul (length t));
-    spare = refl;
-    holds = holds-start b₀ (length t) ((r + k) * length t) r;
-  }
-
-  module _ {w : ℕ} {b t : List ℕ} {n j at : ℕ} (h : InRow m b₀ r f src k w b t n j at) where
+  module _ {w : ℕ} {b t : List ℕ} {n j : ℕ} (h : InRow m b₀ r f src k w b t n j) where
     -- at last every one is
     pub row_done : k ≤ j → RowAdded m b₀ b r f src k w n
     row_done l =
@@ -68,21 +56,17 @@ module _ {m : ℕ} {b₀ : List ℕ} {r : ℕ} {f src : List ℕ} {k : ℕ} wher
       abbrev there : Poly
       there = read_terms (w - 1) b₀ 0 r
 
-      -- the next term stands in src
+      -- the place of the next term
+      abbrev at : ℕ
+      at = j * w
+
+      -- it stands in src
       pub fits : at + w ≤ length src
-      fits = omega (arith, h.here, row_end j k w l, h.asked.source)
+      fits = omega (arith, row_end j k w l, h.asked.source)
 
       -- the next term
       abbrev pub next : List ℕ
       next = row src at w (row-wide h.asked) fits
-
-      -- it is as long as the room for a term, and the factor no longer
-      pub next_asks : (0 < length f) × (length f ≤ length t) × (length next ≡ length t)
-      next_asks = (
-        h.asked.some,
-        omega (arith, h.asked.within, h.spare),
-        row-length src at w (row-wide h.asked) fits ∙ sym h.spare,
-      )
 
       -- there is room for its product
       inside : length done + length there < r + k
@@ -108,7 +92,7 @@ module _ {m : ℕ} {b₀ : List ℕ} {r : ℕ} {f src : List ℕ} {k : ℕ} wher
         done_more =
             let s : suc (w - 1) ≡ w = omega (arith, row-wide h.asked) in
             let u : j * suc (w - 1) ≡ j * w = ap (λ (x : ℕ). j * x) s in
-            let v : at ≡ 0 + j * suc (w - 1) = omega (arith, h.here) in
+            let v : at ≡ 0 + j * suc (w - 1) = omega arith in
             ap (λ (x : Poly). done ++ x) product_made
             ∙ sym (scale_append (gf m) (get_or f 0 0) (drop 1 f) (read_terms (w - 1) src 0 j)
             (term_at (w - 1) src at ∷ []))
@@ -117,11 +101,10 @@ module _ {m : ℕ} {b₀ : List ℕ} {r : ℕ} {f src : List ℕ} {k : ℕ} wher
 
         -- one product more is inserted
         pub row_more : Ring (gf m) → {b' : List ℕ} {n' : ℕ} → Inserted (gf m) b b' n t' n'
-            → InRow m b₀ r f src k w b' t' n' (j + 1) (at + w)
+            → InRow m b₀ r f src k w b' t' n' (j + 1)
         row_more R {b'} {n'} i = record {
           asked = h.asked;
           most = omega arith;
-          here = omega (arith, h.here, next_row j w);
           spare = size ∙ h.spare;
           holds = subst (Holds b₀ b' w ((r + k) * w) n')
               (sym (into-last (gf m) R done (get_or t' 0 0) (drop 1 t') there h.asked.sorted)

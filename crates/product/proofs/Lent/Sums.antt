@@ -1,9 +1,9 @@
 -- A row added to a sum in pieces, the last first. Assumes nothing.
-use mathlib.Core.Path.{◌≡◌, refl, sym, ap, ap₂, ◌∙◌, subst}
+use mathlib.Core.Path.{◌≡◌, sym, ap, ap₂, ◌∙◌, subst}
 use mathlib.Core.List.{List, ◌++◌}
 use Prim.Native.Nat.{ℕ, suc, ◌+◌, ◌*◌, ◌-◌, ◌≤◌}
 use native.Mathlib.Omega.{arith}
-use native.Mathlib.Nat.{le_refl, zero-mul, mul-le-mul_right, add-mul}
+use native.Mathlib.Nat.{mul-le-mul_right, add-mul}
 use lib.ListN.{length, get_or, drop}
 use Rattle.field.specs.Laws.{gf}
 use Rattle.poly.specs.Poly.{Poly, into}
@@ -12,7 +12,7 @@ use Rattle.poly.proofs.Laws.Insert.{scale_append}
 use Rattle.buffer.specs.Buffer.{read_terms}
 use Rattle.buffer.specs.Insert.{Holds}
 use Rattle.buffer.proofs.Lent.Reads.{read_length, read-parts}
-use Rattle.buffer.proofs.Lent.Adding.{holds-count, holds-start}
+use Rattle.buffer.proofs.Lent.Adding.{holds-count}
 use Rattle.product.specs.Product.{row_of, SumAsked, SumAdded}
 use Rattle.product.proofs.Lent.Parts.{part, part_length, part-read}
 use Rattle.product.proofs.Lent.Products.{row-wide, row_of-length, again_asks, holds_then}
@@ -26,21 +26,6 @@ pub record InSum (m : ℕ) (b₀ : List ℕ) (r : ℕ) (f src : List ℕ) (k w :
       (into (gf m) (row_of m f (read_terms (w - 1) src (j * w) (k - j))) (read_terms (w - 1) b₀ 0 r))
 
 module _ {m : ℕ} {b₀ : List ℕ} {r : ℕ} {f src : List ℕ} {k : ℕ} where
-  -- at first nothing is added
-  pub sum-start : {t : List ℕ} → SumAsked b₀ r f src k (length t) → InSum m b₀ r f src k (length t) b₀ t r k
-  sum-start {t} a =
-      let w : ℕ = length t in
-      let z : 0 ≡ k - k = omega arith in
-      record {
-        asked = a;
-        most = le_refl k;
-        spare = refl;
-        holds =
-            subst (λ (x : ℕ). Holds b₀ b₀ w (length b₀) r (into (gf m) (row_of m f (read_terms (w - 1) src (k * w) x))
-            (read_terms (w - 1) b₀ 0 r))) z
-            (holds-start b₀ w (length b₀) r);
-      }
-
   module _ {w : ℕ} {b t : List ℕ} {n j : ℕ} (h : InSum m b₀ r f src k w b t n j) where
     -- the terms that stood there
     abbrev there : Poly
@@ -49,14 +34,6 @@ module _ {m : ℕ} {b₀ : List ℕ} {r : ℕ} {f src : List ℕ} {k : ℕ} wher
     -- the terms of src from i on
     abbrev rest : ℕ → Poly
     rest i = read_terms (w - 1) src (i * w) (k - i)
-
-    -- at last every product is
-    pub sum_done : j ≡ 0 → SumAdded m b₀ b r f src k w n
-    sum_done z =
-        let y : j * w ≡ 0 = ap (λ (x : ℕ). x * w) z ∙ zero-mul w in
-        let x : k - j ≡ k = omega arith in
-        subst (λ (p : Poly). Holds b₀ b w (length b₀) n (into (gf m) (row_of m f p) there))
-        (ap₂ (λ (u v : ℕ). read_terms (w - 1) src u v) y x) h.holds
 
     -- no more terms than stood there and were added
     count : n ≤ r + (k - j)

@@ -1,7 +1,7 @@
 -- The search: each byte tried, and each variable found. Assumes nothing.
 use mathlib.Core.Path.{◌≡◌, refl, sym, ap, ap₂, ◌∙◌, subst}
 use mathlib.Core.Logic.{◌⊎◌, inl, inr}
-use mathlib.Core.List.{List, [], ◌∷◌, ◌++◌, append_assoc, append-nil}
+use mathlib.Core.List.{List, [], ◌∷◌, ◌++◌, append_assoc}
 use Prim.Native.Nat.{ℕ, suc, ◌+◌, ◌*◌, ◌-◌, ◌≤◌, ◌<◌, zero-le}
 use native.Mathlib.Omega.{arith}
 use native.Mathlib.Nat.{suc-mul, mul-le-mul_right, zero-add, le_refl, eq-or-lt_of_le}
@@ -16,7 +16,7 @@ use Rattle.poly.specs.First.{put, put_slot, first_byte, first_differing, tried}
 use Rattle.poly.specs.Canon.{Powers, Some, Canon}
 use Rattle.buffer.specs.Buffer.{read_terms}
 use Rattle.search.specs.Put.{Led, PutAsked, Put}
-use Rattle.search.specs.Search.{SearchAsked, Searched}
+use Rattle.search.specs.Search.{SearchAsked}
 use Rattle.poly.proofs.Laws.Reduced.{canon-put}
 use Rattle.poly.proofs.Laws.First.{first_byte-before, first_byte-some, first_byte-bound}
 use Rattle.poly.proofs.Laws.Slots.{lead, lead-none, bytes_nonempty, put_slot-lead}
@@ -138,10 +138,6 @@ pub record Trying (m w i : ℕ) (b₀ : List ℕ) (left₀ tried₀ : ℕ) (b : 
   pub below : a ≤ first_byte (gf m) (rest w i b₀ left₀)
 
 module _ {m w i : ℕ} {b₀ : List ℕ} {left₀ tried₀ : ℕ} where
-  -- at first none is tried
-  pub trying_start : suc i < w → Left m w i b₀ left₀ → Trying m w i b₀ left₀ tried₀ b₀ left₀ tried₀ 0
-  trying_start l h = record { inside = l; state = h; same = refl; terms = refl; count = omega arith; below = zero-le }
-
   module _ {b : List ℕ} {left n a : ℕ} (h : Trying m w i b₀ left₀ tried₀ b left n a) where
     -- the terms are as they were
     state-here : Left m w i b left
@@ -258,21 +254,3 @@ module _ {m : ℕ} {b₀ : List ℕ} {k w : ℕ} {bytes₀ b bytes : List ℕ} {
             ∙ ap {B = List ℕ} (λ (x : List ℕ). take i bytes ++ x) (sym e) ∙ h.found;
         count = omega (arith, h.count, ap tried e, tried-more a d, t.count);
       })
-
-  -- at last every byte is
-  pub finding_done : w ≤ i + 1 → Searched m b₀ b k w bytes₀ bytes n
-  finding_done l =
-      let e : i ≡ w - 1 = omega (arith, h.most) in
-      let z : w - 1 - i ≡ 0 = omega arith in
-      let f : first_differing (gf m) (w - 1 - i) (rest w i b left) ≡ [] =
-      ap (λ (x : ℕ). first_differing (gf m) x (rest w i b left)) z in
-      record {
-        found =
-            ap (λ (x : ℕ). take x bytes) (sym e) ∙ sym (append-nil (take i bytes))
-            ∙ ap {B = List ℕ} (λ (x : List ℕ). take i bytes ++ x) (sym f) ∙ h.found;
-        count = omega (arith, h.count, ap tried f);
-        listed = h.listed;
-        behind = h.behind;
-        size = h.size;
-        high = h.high;
-      }

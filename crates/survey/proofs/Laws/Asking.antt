@@ -17,15 +17,16 @@ use Rattle.text.specs.Routine.{maps_of, origin_of, masked_of, routine_of}
 use Rattle.rules.specs.Ranged.{ReadsOp, ReadsAbove}
 use Rattle.values.specs.declared.shelf.Shelf.{Shelf}
 use Rattle.values.specs.declared.source.Scope.{Scope}
-use Rattle.survey.specs.declared.walk.Walk.{Walk}
-use Rattle.values.specs.Shelf.{bare}
+use Rattle.std.proofs.Common.{Result}
+use Rattle.values.specs.Shelf.{bare, Sound}
+use Rattle.values.specs.Source.{Narrow}
 use Rattle.values.specs.Raw.{most_standing, Inside}
 use Rattle.values.specs.Value.{Workable}
 use Rattle.survey.specs.Walk.{blank, WalkAsked, Walked}
 use Rattle.survey.specs.Table.{Listed, Constants}
-use Rattle.survey.specs.Survey.{modulus, term_bytes, origin_scope, masked_scope, Ready, Lent, BlockAsked, Begun}
+use Rattle.text.specs.Ready.{Ready}
+use Rattle.survey.specs.Survey.{modulus, term_bytes, origin_scope, masked_scope, Lent, BlockAsked, Begun}
 use Rattle.survey.specs.Survey.{OriginWalked, MaskedWalked}
-use Rattle.values.proofs.Laws.Shelves.{bare-sound}
 use Rattle.survey.proofs.Laws.Filling.{tabled}
 
 -- ---- the maps that are applied, and the variables that are drawn
@@ -88,6 +89,25 @@ workable {r} {left} {right} Q l = record {
   same = omega (arith, l.same);
 }
 
+-- ---- what each block may read
+
+module _ {r : code.Routine} (Q : Ready r) {s : Scope} {d : Shelf} (o : Sound d) where
+  -- the scope of the origin block is within every directory
+  pub origin-narrow : s ≡ origin_scope r → Narrow s d
+  origin-narrow e = subst (λ (x : Scope). Narrow x d) (sym e) record {
+    sound = o;
+    base = omega arith;
+    few = omega (arith, Q.counted.fits, Q.counted.room);
+  }
+
+  -- that of the masked block is within one that holds the origin block
+  pub masked-narrow : s ≡ masked_scope r → r.origin ≤ d.count → Narrow s d
+  masked-narrow e h = subst (λ (x : Scope). Narrow x d) (sym e) record {
+    sound = o;
+    base = h;
+    few = omega (arith, mul-one (r.inputs * r.shares), Q.counted.fits, Q.counted.room);
+  }
+
 -- ---- the two walks
 
 module _ {r : code.Routine} {lists : List (List ℕ)} {constants left right : List ℕ}
@@ -97,15 +117,6 @@ module _ {r : code.Routine} {lists : List (List ℕ)} {constants left right : Li
       (term_bytes r) most_standing
   unfolding bare
   origin_here = record {
-    sized = record {
-      narrow = record {
-        sound = bare-sound;
-        base = omega arith;
-        few = omega
-            (arith, A.ready.counted.fits, A.ready.counted.room);
-      };
-      most = omega arith;
-    };
     work = workable A.ready A.lent;
     wide = omega (arith, A.ready.counted.fits);
     drawn = omega arith;
@@ -122,14 +133,6 @@ module _ {r : code.Routine} {lists : List (List ℕ)} {constants left right : Li
   masked-here : (d : Shelf) → Begun r d → WalkAsked modulus lists constants (maps_of r) r.statements r.origin
       (r.origin + r.masked) (masked_scope r) d left right (term_bytes r) most_standing
   masked-here d B = record {
-    sized = record {
-      narrow = record {
-        sound = B.sound;
-        base = omega (arith, B.count);
-        few = omega (arith, mul-one (r.inputs * r.shares), A.ready.counted.fits, A.ready.counted.room);
-      };
-      most = B.top;
-    };
     work = workable A.ready A.lent;
     wide = omega (arith, A.ready.counted.fits, mul-one (r.inputs * r.shares));
     drawn = omega arith;
@@ -165,7 +168,7 @@ module _ {r : code.Routine} {lists : List (List ℕ)} {constants left right : Li
 
 -- ---- what they leave, by the scope of each block
 
-module _ (r : code.Routine) {left left' : List ℕ} {q : Walk} {s : Scope} {d : Shelf} where
+module _ (r : code.Routine) {left left' : List ℕ} {q : Result Shelf ℕ} {s : Scope} {d : Shelf} where
   -- what the first walk leaves
   pub origin-walked : s ≡ origin_scope r → d ≡ bare
       → Walked modulus (maps_of r) r.statements 0 r.origin s d left (term_bytes r) most_standing left' q

@@ -1,13 +1,13 @@
--- Tables filled place by place, and a buffer cleared byte by byte.
+-- Tables filled place by place.
 -- Assumes nothing.
 use mathlib.Core.Path.{◌≡◌, refl, sym, ap, ap₂, ◌∙◌}
-use Prim.Native.Nat.{ℕ, zero, suc, ◌+◌, ◌≤◌, ◌<◌}
+use Prim.Native.Nat.{ℕ, zero, suc, ◌+◌, ◌<◌}
 use native.Mathlib.Omega.{arith}
 use native.Mathlib.Decide.{ℕ_discrete, dec_lt}
 use mathlib.Core.List.{List, [], ◌∷◌}
-use lib.ListN.{length, take, get_or, set, replicate, length-take, length-set, length-replicate, get_or-replicate}
+use lib.ListN.{length, take, get_or, set, replicate, length-take, length-set, get_or-replicate}
 use lib.ListN.{get_or-eq_default}
-use lib.Seq.{get_or-set_same, get_or-set_other, get_or-take, ext_get_or}
+use lib.Seq.{get_or-set_same, get_or-set_other, get_or-take}
 use Rattle.field.specs.Field.{times, squared}
 use Rattle.field.specs.Maps.{list_of, dual_of, coefficient, coefficients, coefficients_of}
 use Rattle.field.proofs.Laws.Linear.{at_zero}
@@ -106,29 +106,3 @@ pub tabled : (m : ℕ) (maps : List AffineMap) (lists : List (List ℕ)) (consta
     → Constants maps constants 8
     → Tabled m maps lists constants
 tabled m maps lists constants l k = record { coefficients = l.rows; constant = k.entries }
-
--- ---- a buffer cleared
-
--- the first i bytes are zero, and the length is kept
-pub record Clearing (b₀ b : List ℕ) (i : ℕ) : Type 0 where
-  pub within : i ≤ length b₀
-  pub size : length b ≡ length b₀
-  pub zeros : (j : ℕ) → j < i → get_or b j 0 ≡ 0
-
--- no byte is cleared yet
-pub clearing_none : (b : List ℕ) → Clearing b b 0
-clearing_none b = record { within = omega arith; size = refl; zeros = λ j h. absurd (omega arith) }
-
--- one byte more
-pub clearing_more : (b₀ b : List ℕ) (i : ℕ) → i < length b → Clearing b₀ b i → Clearing b₀ (set b i 0) (i + 1)
-clearing_more b₀ b i h c = record {
-  within = omega (arith, c.size);
-  size = length-set b i 0 ∙ c.size;
-  zeros = λ j n. set_at b (λ k. 0) i 0 0 h refl j (λ q. c.zeros j (omega arith));
-}
-
--- every byte is zero
-pub cleared-all : (b₀ b : List ℕ) (i : ℕ) → Clearing b₀ b i → (i < length b → ⊥) → b ≡ replicate (length b₀) 0
-cleared-all b₀ b i c n =
-    ext_get_or 0 b (replicate (length b₀) 0) (c.size ∙ sym (length-replicate {A = ℕ} (length b₀) 0))
-    (λ j h. c.zeros j (omega (arith, c.within)) ∙ sym (get_or-replicate (length b₀) j 0 0 (omega (arith, c.size))))

@@ -4,9 +4,10 @@ use mathlib.Core.Path.{◌≡◌, refl, sym, ap, ap₂, ◌∙◌, subst}
 use Prim.Native.Nat.{ℕ, zero, suc, ◌+◌, ◌*◌, ◌-◌, ◌≤◌, ◌<◌}
 use native.Mathlib.Omega.{arith}
 use native.Mathlib.Numerals.{add-one}
-use native.Mathlib.Nat.{le_of_suc-le-suc, mul-le-mul_right, zero-mul, suc-mul}
+use native.Mathlib.Nat.{le_of_suc-le-suc, mul-le-mul_right, zero-mul}
 use mathlib.Core.List.{List, [], ◌∷◌, ◌++◌, map, append_assoc, append-nil}
 use lib.ListN.{length, take, drop, get_or, length-append}
+use lib.Seq.{length-take-le}
 use Rattle.field.specs.Field.{Modulus}
 use Rattle.field.specs.Laws.{gf}
 use Rattle.field.proofs.Laws.Field.{gf_laws}
@@ -19,20 +20,21 @@ use Rattle.verdict.specs.Meaning.{joined, operand, value_at}
 use Rattle.verdict.specs.Instances.{polynomials}
 use Rattle.rules.specs.declared.types.Operand.TheVariants.{Place}
 use Rattle.buffer.proofs.Lent.Strides.{row_count}
+use Rattle.verdict.proofs.Laws.Parts.{row_next}
 use Rattle.values.specs.declared.shelf.Shelf.{Shelf}
 use Rattle.values.specs.declared.source.Source.{Source}
 use Rattle.values.specs.declared.source.Scope.{Scope}
 use Rattle.values.specs.Shelf.{Laid}
 use Rattle.values.specs.Source.{source_of, source_size, Located}
 use Rattle.values.specs.Load.{LayAsked, LoadAsked}
-use Rattle.buffer.specs.Insert.{Holds, AddAsked}
+use Rattle.buffer.specs.Insert.{Holds}
 use Rattle.buffer.specs.Buffer.{read_terms}
 use Rattle.poly.proofs.Laws.Sum.{into-none}
-use Rattle.values.proofs.Laws.Forming.{back, laid_end, end_room}
+use Rattle.values.proofs.Laws.Forming.{back, laid_end}
 use Rattle.survey.specs.Difference.{placed, output_terms, OutputsAsked, OutputsLaid, OutputsSized}
 use Rattle.values.specs.Raw.{most_standing, OperandSized}
 use Rattle.values.proofs.Laws.Sources.{source-length}
-use Rattle.values.proofs.Laws.Laying.{laid_none, laid_append}
+use Rattle.values.proofs.Laws.Laying.{laid_append}
 
 -- ---- the first i outputs, one behind the other
 
@@ -52,18 +54,16 @@ module _ (f : ℕ → Poly) where
   outputs-more o i h = ap (laid_outputs o) (add-one i) ∙ more o i h
 
   -- it has room where all of them have
-  pub outputs-room : (o : List ℕ) (i n : ℕ) → i < n → n ≤ length o
-      → length (laid_outputs o i) + length (f (get_or o i 0)) ≤ length (laid_outputs o n)
-  outputs-room [] i n h k = absurd (omega arith)
-  outputs-room (x ∷ o) i zero h k = absurd (omega arith)
-  outputs-room (x ∷ o) zero (suc n) h k = omega (arith, length-append (f x) (laid_outputs o n))
-  outputs-room (x ∷ o) (suc i) (suc n) h k =
+  pub outputs-room : (o : List ℕ) (i : ℕ) → i < length o
+      → length (laid_outputs o i) + length (f (get_or o i 0)) ≤ length (poured (map f o))
+  outputs-room [] i h = absurd (omega arith)
+  outputs-room (x ∷ o) zero h = omega (arith, length-append (f x) (poured (map f o)))
+  outputs-room (x ∷ o) (suc i) h =
       omega (
         arith,
-        length-append (f x) (laid_outputs o n),
+        length-append (f x) (poured (map f o)),
         length-append (f x) (laid_outputs o i),
-        outputs-room o i n
-            (le_of_suc-le-suc h) (le_of_suc-le-suc k),
+        outputs-room o i (le_of_suc-le-suc h),
       )
 
 -- ---- the difference
@@ -89,20 +89,15 @@ module _ (m n : ℕ) (M : Modulus m) where
 
 -- ---- the loop of `load_outputs`
 
-module _ {left outputs : List ℕ} {named : ℕ} {s : Scope} {d : Shelf} {right₀ : List ℕ} {from w : ℕ}
-    (long : length outputs ≡ 8)
-    (Q : OutputsAsked left outputs named s d right₀ from w) where
+module _ {left outputs : List ℕ} {s : Scope} {d : Shelf} {right₀ : List ℕ} {from w : ℕ}
+    (Q : OutputsAsked left outputs s d right₀ from w) where
   abbrev terms : ℕ → Poly
-  terms i = output_terms w left d s outputs i
+  terms i = output_terms w left d s (take i outputs)
 
   abbrev Done : ℕ → List ℕ → ℕ → Type 0
-  Done i right k = OutputsLaid left outputs i s d right₀ right from w k
+  Done i right k = OutputsLaid left (take i outputs) s d right₀ right from w k
 
-  -- no output is laid yet
-  pub outputs-none : Done 0 right₀ from
-  outputs-none = record { count = omega arith; laid = laid_none w right₀ from }
-
-  module _ {i : ℕ} {right : List ℕ} {k : ℕ} {r : Source} (l : i < named) (H : Done i right k)
+  module _ {i : ℕ} {right : List ℕ} {k : ℕ} {r : Source} (l : i < length outputs) (H : Done i right k)
       (L : Located s d (Place (get_or outputs i 0)) r) where
     found : source_of w left r ≡ placed w left d s (get_or outputs i 0)
     unfolding operand value_at polynomials
@@ -111,17 +106,8 @@ module _ {left outputs : List ℕ} {named : ℕ} {s : Scope} {d : Shelf} {right�
     size_is : length (placed w left d s (get_or outputs i 0)) ≡ source_size r
     size_is = ap length (sym found) ∙ source-length w left r
 
-    inside : i < length outputs
-    inside = omega (arith, Q.few)
-
-    fits_in : k + source_size r ≤ from + length (terms named)
-    fits_in = omega (
-      arith,
-      H.count,
-      size_is,
-      outputs-room (placed w left d s) outputs i named l
-          (omega (arith, Q.few)),
-    )
+    fits_in : k + source_size r ≤ from + length (output_terms w left d s outputs)
+    fits_in = omega (arith, H.count, size_is, outputs-room (placed w left d s) outputs i l)
 
     -- the next output has room
     pub output-asked : LoadAsked left r right k w
@@ -138,14 +124,14 @@ module _ {left outputs : List ℕ} {named : ℕ} {s : Scope} {d : Shelf} {right�
 
     -- the count stays a small number
     pub output-small : k + source_size r ≤ length right₀
-    output-small = omega (arith, fits_in, Q.room, row_count (from + length (terms named)) w (omega (arith, Q.wide)))
+    output-small = omega (arith, fits_in, Q.room, row_count (from + length (output_terms w left d s outputs)) w (omega (arith, Q.wide)))
 
     -- one output more is laid
     pub output-more : (right' : List ℕ) (z : ℕ) → z ≡ source_size r
         → Laid w right right' k (source_size r) (source_of w left r) → Done (i + 1) right' (k + z)
     output-more right' z e h =
         let t : terms (i + 1) ≡ terms i ++ placed w left d s (get_or outputs i 0) = outputs-more
-        (placed w left d s) outputs i inside in
+        (placed w left d s) outputs i l in
         let n : length (terms (i + 1)) ≡ length (terms i) + source_size r = ap length t
         ∙ length-append (terms i) (placed w left d s (get_or outputs i 0))
         ∙ ap (λ (x : ℕ). length (terms i) + x) size_is in
@@ -162,43 +148,17 @@ module _ {left outputs : List ℕ} {named : ℕ} {s : Scope} {d : Shelf} {right�
 
 -- ---- the ways out of `form_difference`
 
-module _ {left outputs : List ℕ} {named : ℕ} {s : Scope} {d : Shelf} {right r₁ : List ℕ} {a : Source} {top w i : ℕ}
+module _ {left outputs : List ℕ} {s : Scope} {d : Shelf} {right r₁ : List ℕ} {a : Source} {top w i : ℕ}
     (e : i ≡ source_size a)
-    (P : LoadAsked left a right 0 w) (Q : OutputsAsked left outputs named s d right (source_size a) w)
-    (l : LayAsked left top (source_size a + length (output_terms w left d s outputs named)) w)
+    (P : LoadAsked left a right 0 w) (Q : OutputsAsked left outputs s d right (source_size a) w)
+    (l : LayAsked left top (source_size a + length (output_terms w left d s outputs)) w)
     (h : Laid w right r₁ 0 (source_size a) (source_of w left a)) where
   abbrev all : Poly
-  all = output_terms w left d s outputs named
+  all = output_terms w left d s outputs
 
-  -- the outputs have room behind the result
-  pub outputs-asked : OutputsAsked left outputs named s d r₁ i w
-  outputs-asked = record {
-    narrow = Q.narrow;
-    wide = Q.wide;
-    most = Q.most;
-    few = Q.few;
-    held = Q.held;
-    room = rw e (omega (arith, Q.room, h.size));
-  }
-
-  module _ {r₂ : List ℕ} {k : ℕ} (g : OutputsLaid left outputs named s d r₁ r₂ i w k) where
+  module _ {r₂ : List ℕ} {k : ℕ} (g : OutputsLaid left outputs s d r₁ r₂ i w k) where
     total : k ≡ source_size a + length all
     total = g.count ∙ ap (λ (x : ℕ). x + length all) e
-
-    right-size : length r₂ ≡ length right
-    right-size = g.laid.size ∙ h.size
-
-    -- the sum has the room that it asks
-    pub difference-asked : AddAsked (take (length left - top * w) (drop (top * w) left)) 0 r₂ k w
-    difference-asked =
-        let z : 0 + k ≡ source_size a + length all = omega (arith, total) in
-        record {
-          some = P.asked.some;
-          room = subst (λ (x : ℕ). x * w ≤ length (take (length left - top * w) (drop (top * w) left))) (sym z)
-              (end_room w top (source_size a + length all) left l);
-          source = subst (λ (x : ℕ). x * w ≤ length r₂) (sym total) (omega (arith, Q.room, right-size));
-          sorted = tt;
-        }
 
     both : read_terms (w - 1) r₂ 0 k ≡ source_of w left a ++ all
     both =
@@ -219,26 +179,18 @@ module _ {left outputs : List ℕ} {named : ℕ} {s : Scope} {d : Shelf} {right 
 
 -- ---- the loop of `outputs_size`
 
--- no output is counted yet
-pub sized-none : (outputs : List ℕ) (s : Scope) (d : Shelf) → OutputsSized outputs 0 s d 0
-sized-none outputs s d = record { means = λ w b. refl; most = omega arith }
-
 -- one output more is counted
 pub sized-more : (outputs : List ℕ) (s : Scope) (d : Shelf) (i k z : ℕ) → i < length outputs
-    → OutputsSized outputs i s d k
-    → OperandSized s d (Place (get_or outputs i 0)) z → OutputsSized outputs (i + 1) s d (k + z)
+    → OutputsSized (take i outputs) s d k
+    → OperandSized s d (Place (get_or outputs i 0)) z → OutputsSized (take (i + 1) outputs) s d (k + z)
 unfolding operand value_at polynomials
 sized-more outputs s d i k z l h g = record {
   means = λ w b.
       ap₂ (λ (x y : ℕ). x + y) (h.means w b) (g.means 0 w b)
       ∙ sym (ap length (outputs-more (placed w b d s) outputs i l)
-      ∙ length-append (output_terms w b d s outputs i) (placed w b d s (get_or outputs i 0)));
-  most = omega (arith, h.most, g.most, row_next i most_standing);
+      ∙ length-append (output_terms w b d s (take i outputs)) (placed w b d s (get_or outputs i 0)));
+  most =
+      let a : length (take i outputs) ≡ i = length-take-le i outputs (omega arith) in
+      let b : length (take (i + 1) outputs) ≡ i + 1 = length-take-le (i + 1) outputs (omega arith) in
+      rw b (omega (arith, rw a at h.most, g.most, row_next i most_standing));
 }
-  where
-    row_next : (i w : ℕ) → (i + 1) * w ≡ i * w + w
-    row_next i w = rw (add-one, suc-mul)
-
--- the count stays a small number
-pub sized-small : (i k z : ℕ) → i ≤ 8 → k ≤ i * most_standing → z ≤ most_standing → k + z ≤ 9 * most_standing
-sized-small i k z h g f = omega (arith, mul-le-mul_right most_standing h)

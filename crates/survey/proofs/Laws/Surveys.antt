@@ -5,9 +5,9 @@
 use mathlib.Core.Path.{◌≡◌, refl, sym, ap, ap₂, ◌∙◌}
 use Prim.Native.Nat.{ℕ, ◌+◌, ◌-◌}
 use native.Mathlib.Omega.{arith}
-use mathlib.Core.Bool.{Bool, true, false, cond}
+use mathlib.Core.Bool.{cond}
 use mathlib.Core.List.{List, [], ◌++◌}
-use mathlib.Core.Option.{Option, none, some}
+use Rattle.std.specs.Prelude.{Option, None as none, Some as some}
 use lib.Dec.{ltb}
 use lib.ListN.{length, take, drop}
 use lib.Seq.{take_all, take-append-add}
@@ -18,12 +18,14 @@ use Rattle.text.specs.Routine.{maps_of, origin_of, masked_of, routine_of}
 use Rattle.verdict.specs.Meaning.{values}
 use Rattle.verdict.specs.Instances.{polynomials, modulus_of, powers_of, symbolic}
 use Rattle.verdict.specs.Count.{last_step, most_terms, unknown_line}
-use Rattle.survey.specs.declared.walk.Walk.{Walk}
+use Rattle.values.specs.declared.shelf.Shelf.{Shelf}
+use Rattle.std.proofs.Common.{Result, Ok, Err}
 use Rattle.values.specs.Shelf.{stored, value_of, bare}
 use Rattle.values.specs.Source.{beginning, variables_of, visible, reach}
 use Rattle.values.specs.Raw.{most_standing}
-use Rattle.survey.specs.Walk.{over_in, top_in, part, line_if}
-use Rattle.survey.specs.Survey.{modulus, term_bytes, origin_scope, masked_scope, Ready, Begun, OriginWalked}
+use Rattle.survey.specs.Walk.{over_in, top_in, part, line_of}
+use Rattle.text.specs.Ready.{Ready}
+use Rattle.survey.specs.Survey.{modulus, term_bytes, origin_scope, masked_scope, Begun, OriginWalked}
 use Rattle.survey.specs.Survey.{MaskedWalked, Surveyed}
 use Rattle.verdict.proofs.Laws.Lists.{length-tabulate}
 use Rattle.values.proofs.Laws.Sources.{beginning-length}
@@ -110,12 +112,12 @@ module _ {r : code.Routine} (Q : Ready r) where
 
   -- ---- the walk over the origin block
 
-  module _ {left₀ left₁ : List ℕ} {q : Walk} (W : OriginWalked r left₀ left₁ q) where
+  module _ {left₀ left₁ : List ℕ} {q : Result Shelf ℕ} (W : OriginWalked r left₀ left₁ q) where
     origin-start : reach (term_bytes r) left₀ bare (origin_scope r) ≡ beginning n (origin_scope r)
     unfolding bare
     origin-start = reach-start (term_bytes r) left₀ bare (origin_scope r) refl
 
-    origin-line : line_if q.over q.line ≡ origin_over n
+    origin-line : line_of q ≡ origin_over n
     unfolding bare
     origin-line =
         W.decided
@@ -124,93 +126,93 @@ module _ {r : code.Routine} (Q : Ready r) where
         origin-start origin-part
 
     -- given up in the origin block
-    pub origin_over_lem : q.over ≡ true → unknown_line (routine_of r) (symbolic (routine_of r)) ≡ some q.line
-    origin_over_lem e =
+    pub origin_over_lem : (line : ℕ) → q ≡ Err line → unknown_line (routine_of r) (symbolic (routine_of r)) ≡ some line
+    origin_over_lem line e =
         line-by
         ∙ ap (λ (x : Option ℕ). or_else x (or_else (masked_over n) (last_over (masked_top n))))
-        (sym origin-line ∙ ap (λ (b : Bool). line_if b q.line) e)
+        (sym origin-line ∙ ap line_of e)
 
-    module _ (e : q.over ≡ false) where
+    module _ {d : Shelf} (e : q ≡ Ok d) where
       origin-none : origin_over n ≡ none
-      origin-none = sym origin-line ∙ ap (λ (b : Bool). line_if b q.line) e
+      origin-none = sym origin-line ∙ ap line_of e
 
-      origin-stands : reach (term_bytes r) left₁ q.shelf (origin_scope r) ≡ (symbolic (routine_of r)).origin
+      origin-stands : reach (term_bytes r) left₁ d (origin_scope r) ≡ (symbolic (routine_of r)).origin
       origin-stands =
-          walk-values (W.finished e)
+          walk-values (W.finished d e)
           ∙ ap₂ (λ (vs : List Poly) (ss : List Statement). values (polynomials modulus n) (maps_of r)
           (variables_of n (origin_scope r)) vs ss)
           origin-start origin-part
           ∙ origin_values_lem
 
-      origin_top_lem : q.shelf.top ≡ origin_top n
+      origin_top_lem : d.top ≡ origin_top n
       unfolding bare
       origin_top_lem =
-          walk_top (W.finished e)
+          walk_top (W.finished d e)
           ∙ ap₂ (λ (vs : List Poly) (ss : List Statement). top_in modulus n (maps_of r)
           (variables_of n (origin_scope r)) vs 0 ss)
           origin-start origin-part
 
       -- what the walk over the masked block asks
-      pub origin-begun : Begun r q.shelf
+      pub origin-begun : Begun r d
       unfolding bare
       origin-begun =
-          let H = W.finished e in
+          let H = W.finished d e in
           record { sound = H.sound; count = omega (arith, H.count); top = H.top }
 
       -- ---- the walk over the masked block
 
-      module _ {left₂ : List ℕ} {p : Walk} (X : MaskedWalked r q.shelf left₁ left₂ p) where
-        masked-start : reach (term_bytes r) left₁ q.shelf (masked_scope r) ≡ beginning n (masked_scope r)
-        masked-start = reach-start (term_bytes r) left₁ q.shelf (masked_scope r) (sym origin-begun.count)
+      module _ {left₂ : List ℕ} {p : Result Shelf ℕ} (X : MaskedWalked r d left₁ left₂ p) where
+        masked-start : reach (term_bytes r) left₁ d (masked_scope r) ≡ beginning n (masked_scope r)
+        masked-start = reach-start (term_bytes r) left₁ d (masked_scope r) (sym origin-begun.count)
 
-        masked-line : line_if p.over p.line ≡ masked_over n
+        masked-line : line_of p ≡ masked_over n
         masked-line =
             X.decided
             ∙ ap₂ (λ (vs : List Poly) (ss : List Statement).
-            over_in most_standing modulus n (maps_of r) (variables_of n (masked_scope r)) vs q.shelf.top ss)
+            over_in most_standing modulus n (maps_of r) (variables_of n (masked_scope r)) vs d.top ss)
             masked-start masked-part
             ∙ ap (λ (k : ℕ). over_in most_standing modulus n (maps_of r) (variables_of n (masked_scope r))
             (beginning n (masked_scope r)) k (masked_of r))
             origin_top_lem
 
-        masked_top_lem : p.over ≡ false → p.shelf.top ≡ masked_top n
-        masked_top_lem f =
-            walk_top (X.finished f)
+        masked_top_lem : (x : Shelf) → p ≡ Ok x → x.top ≡ masked_top n
+        masked_top_lem x f =
+            walk_top (X.finished x f)
             ∙ ap₂ (λ (vs : List Poly) (ss : List Statement).
-            top_in modulus n (maps_of r) (variables_of n (masked_scope r)) vs q.shelf.top ss)
+            top_in modulus n (maps_of r) (variables_of n (masked_scope r)) vs d.top ss)
             masked-start masked-part
             ∙ ap (λ (k : ℕ). top_in modulus n (maps_of r) (variables_of n (masked_scope r)) (beginning n (masked_scope r)) k
             (masked_of r))
             origin_top_lem
 
-        masked-stands : p.over ≡ false → reach (term_bytes r) left₂ p.shelf (masked_scope r)
+        masked-stands : (x : Shelf) → p ≡ Ok x → reach (term_bytes r) left₂ x (masked_scope r)
             ≡ (symbolic (routine_of r)).masked
-        masked-stands f =
-            walk-values (X.finished f)
+        masked-stands x f =
+            walk-values (X.finished x f)
             ∙ ap₂ (λ (vs : List Poly) (ss : List Statement). values (polynomials modulus n) (maps_of r)
             (variables_of n (masked_scope r)) vs ss)
             masked-start masked-part
             ∙ masked_values_lem
 
         -- the values of the origin block still stand
-        origin-kept : p.over ≡ false
-            → take (r.inputs + r.origin) (reach (term_bytes r) left₂ p.shelf (origin_scope r))
+        origin-kept : (x : Shelf) → p ≡ Ok x
+            → take (r.inputs + r.origin) (reach (term_bytes r) left₂ x (origin_scope r))
             ≡ (symbolic (routine_of r)).origin
         unfolding visible stored
-        origin-kept f =
-            let first = stored (term_bytes r) left₁ q.shelf in
+        origin-kept x f =
+            let first = stored (term_bytes r) left₁ d in
             let b = beginning n (origin_scope r) in
-            let c : length first ≡ r.origin = length-tabulate q.shelf.count
-            (value_of (term_bytes r) left₁ q.shelf) ∙ origin-begun.count in
-            ap (λ (k : ℕ). take (k + r.origin) (b ++ stored (term_bytes r) left₂ p.shelf))
+            let c : length first ≡ r.origin = length-tabulate d.count
+            (value_of (term_bytes r) left₁ d) ∙ origin-begun.count in
+            ap (λ (k : ℕ). take (k + r.origin) (b ++ stored (term_bytes r) left₂ x))
             (sym (beginning-length n (origin_scope r) [] []))
-            ∙ take-append-add b (stored (term_bytes r) left₂ p.shelf) r.origin
-            ∙ ap (λ (vs : List Poly). b ++ vs) ((X.finished f).kept ∙ take_all r.origin first (omega (arith, c)))
+            ∙ take-append-add b (stored (term_bytes r) left₂ x) r.origin
+            ∙ ap (λ (vs : List Poly). b ++ vs) ((X.finished x f).kept ∙ take_all r.origin first (omega (arith, c)))
             ∙ origin-stands
 
         -- what the line is where the origin block has none
         line-masked : unknown_line (routine_of r) (symbolic (routine_of r))
-            ≡ or_else (line_if p.over p.line) (last_over (masked_top n))
+            ≡ or_else (line_of p) (last_over (masked_top n))
         line-masked =
             line-by
             ∙ ap₂ (λ (x y : Option ℕ). or_else x (or_else y (last_over (masked_top n)))) origin-none (sym masked-line)
@@ -218,28 +220,23 @@ module _ {r : code.Routine} (Q : Ready r) where
         -- both walks decide as the rules do
         pub surveyed : Surveyed r left₂ p
         surveyed = record {
-          given = λ f. line-masked ∙ ap (λ (b : Bool). or_else (line_if b p.line) (last_over (masked_top n))) f;
-          stands = λ f. record {
+          given = λ line f.
+              line-masked ∙ ap (λ (y : Result Shelf ℕ). or_else (line_of y) (last_over (masked_top n))) f;
+          stands = λ x f. record {
             directed = record {
-              sound = (X.finished f).sound;
-              base = omega (arith, (X.finished f).count, origin-begun.count);
-              top = (X.finished f).top;
+              sound = (X.finished x f).sound;
+              base = omega (arith, (X.finished x f).count, origin-begun.count);
+              top = (X.finished x f).top;
             };
-            origin = origin-kept f;
-            masked = masked-stands f;
+            origin = origin-kept x f;
+            masked = masked-stands x f;
             last =
                 line-masked
-                ∙ ap (λ (b : Bool). or_else (line_if b p.line) (last_over (masked_top n))) f
-                ∙ ap last_over (sym (masked_top_lem f));
+                ∙ ap (λ (y : Result Shelf ℕ). or_else (line_of y) (last_over (masked_top n))) f
+                ∙ ap last_over (sym (masked_top_lem x f));
           };
         }
 
     -- a routine that the origin block gives up
-    pub surveyed-first : q.over ≡ true → Surveyed r left₁ q
-    surveyed-first e = record {
-      given = λ f. origin_over_lem e;
-      stands = λ f. absurd (never e f);
-    }
-      where
-        never : q.over ≡ true → q.over ≡ false → ⊥
-        never a b = let z : ◌≡◌ {A = ℕ} 0 1 = cc in omega arith
+    pub surveyed-first : {line : ℕ} → q ≡ Err line → Surveyed r left₁ (Err line)
+    surveyed-first {line} e = record { given = λ k f. origin_over_lem k (e ∙ f); stands = λ d f. cc }

@@ -4,10 +4,10 @@ use mathlib.Core.Path.{◌≡◌, refl, sym, ap, ◌∙◌, subst}
 use Prim.Native.Nat.{ℕ, ◌+◌, ◌*◌, ◌-◌, ◌≤◌, ◌<◌}
 use native.Mathlib.Omega.{arith}
 use native.Mathlib.Nat.{mul-le-mul_right}
-use mathlib.Core.Bool.{Bool, true, false, cond}
+use Rattle.std.proofs.Common.{Ok, Err}
 use mathlib.Core.List.{List, [], ◌∷◌, ◌++◌, append_assoc}
 use lib.ListN.{length, take, drop, get_or}
-use lib.Seq.{drop-append-le, take-append-le}
+use lib.Seq.{drop-append-le, take-append-le, get_or-take, get_or-drop}
 use Rattle.poly.specs.Poly.{Poly}
 use Rattle.buffer.proofs.Lent.Reads.{read_length}
 use Rattle.rules.specs.declared.types.Op.{Op}
@@ -21,7 +21,7 @@ use Rattle.values.specs.declared.found.Found.{Found}
 use Rattle.values.specs.Shelf.{stored, value_of, shelved, Laid}
 use Rattle.values.specs.Source.{beginning, variables_of, visible, reach, Narrow}
 use Rattle.values.specs.Raw.{most_standing, raw_in, Inside}
-use Rattle.values.specs.Found.{found_value, found_size, FoundFor, RawAsked}
+use Rattle.values.specs.Found.{found_value, found_size, FoundFor}
 use Rattle.values.specs.Value.{FormAsked}
 use Rattle.survey.specs.Walk.{over_in, top_in, blank, part, WalkAsked, Holds, Walked}
 use Rattle.verdict.proofs.Laws.Lists.{length-tabulate}
@@ -50,17 +50,22 @@ module _ (w : ℕ) (s : Scope) (b b' : List ℕ) (d e : Shelf) (p : Poly) (base 
 
 -- ---- a walk
 
+-- a statement of the part from..to
+pub part-at : (l : List Statement) (from to k : ℕ) → k < to - from
+    → get_or (part l from to) k blank ≡ get_or l (from + k) blank
+part-at l from to k h = get_or-take (to - from) (drop from l) k blank h ∙ get_or-drop from l k blank
+
 module _ {m : ℕ} {lists : List (List ℕ)} {constants : List ℕ} {maps : List AffineMap} {statements : List Statement}
     {from to : ℕ}
     {s : Scope} {d₀ : Shelf} {left₀ right₀ : List ℕ} {w most : ℕ} (long : length statements ≡ 256)
-    (Q : WalkAsked m lists constants maps statements from to s d₀ left₀ right₀ w most) where
+    (N : Narrow s d₀) (Q : WalkAsked m lists constants maps statements from to s d₀ left₀ right₀ w most) where
   abbrev Now : ℕ → List ℕ → Shelf → Type 0
   Now i left d = Holds m maps statements from to s d₀ left₀ w most i left d
 
   -- no statement is walked yet
   pub holds-start : Now from left₀ d₀
   holds-start = record {
-    sound = Q.sized.narrow.sound;
+    sound = N.sound;
     size = refl;
     begun = omega arith;
     within = Q.ordered;
@@ -72,47 +77,42 @@ module _ {m : ℕ} {lists : List (List ℕ)} {constants : List ℕ} {maps : List
     stands = refl;
   }
 
-  module _ {i : ℕ} {left : List ℕ} {d : Shelf} (H : Now i left d) (l : i < to) where
+  -- the statement t at place i
+  module _ {i : ℕ} {left : List ℕ} {d : Shelf} (H : Now i left d) (l : i < to) {t : Statement}
+      (at : t ≡ get_or statements i blank) where
     abbrev op : Op
-    op = (get_or statements i blank).op
+    op = t.op
+
+    reads : Inside s.drawn op
+    reads = rw at (Q.reads i H.begun l)
 
     abbrev raw : ℕ
     raw = raw_in m (w - 1) maps (reach w left d s) op
 
-    narrow : Narrow s d
-    narrow = record {
+    -- what it may read
+    pub walk-narrow : Narrow s d
+    walk-narrow = record {
       sound = H.sound;
-      base = omega (arith, Q.sized.narrow.base, H.count);
-      few = Q.sized.narrow.few;
+      base = omega (arith, N.base, H.count);
+      few = N.few;
     }
 
-    here : part statements i to ≡ get_or statements i blank ∷ part statements (i + 1) to
-    here = part-first statements i to blank l (omega (arith, Q.inside))
-
-    -- its operands can be found
-    pub find_asked : Narrow s d × Inside s.drawn op
-    find_asked = (narrow, Q.reads i H.begun l)
-
-    -- its raw size can be counted
-    pub raw-asked : {f : Found} → FoundFor s d op f → RawAsked f
-    raw-asked z = z.small (omega (arith, H.top, Q.bounded))
+    here : part statements i to ≡ t ∷ part statements (i + 1) to
+    here = rw at (part-first statements i to blank l (omega (arith, Q.inside)))
 
     -- over the limit
     pub walk-over : {f : Found} {k : ℕ} → FoundFor s d op f → k ≡ found_size lists constants f → most - d.top < k
         → Walked m maps statements from to s d₀ left₀ w most left
-        (record { over = true; line = (get_or statements i blank).line; shelf = d })
+        (Err t.line)
     walk-over z e h = record {
       decided =
           sym (over-here most m (w - 1) maps (variables_of (w - 1) s) (reach w left d s) d.top
-          (get_or statements i blank) (part statements (i + 1) to)
+          t (part statements (i + 1) to)
           (omega (arith, e, z.sized m w lists constants left maps Q.tabled, H.top)))
           ∙ ap (over_in most m (w - 1) maps (variables_of (w - 1) s) (reach w left d s) d.top) (sym here)
           ∙ H.over;
-      finished = λ e. absurd (true-not-false e);
+      finished = λ d e. cc;
     }
-      where
-        true-not-false : true ≡ false → ⊥
-        true-not-false e = let z : ◌≡◌ {A = ℕ} 0 1 = ap (λ (b : Bool). cond b 0 1) e in absurd (omega arith)
 
     -- room for the statement
     module _ {f : Found} {k : ℕ} (z : FoundFor s d op f) (e : k ≡ found_size lists constants f)
@@ -162,7 +162,7 @@ module _ {m : ℕ} {lists : List (List ℕ)} {constants : List ℕ} {maps : List
               value-length,
               raw-fits,
               same,
-              given-small m (w - 1) Q.work.modulus maps s (reach w left d s) op (Q.reads i H.begun l),
+              given-small m (w - 1) Q.work.modulus maps s (reach w left d s) op reads,
             )
 
         -- the directory has room for it
@@ -171,7 +171,7 @@ module _ {m : ℕ} {lists : List (List ℕ)} {constants : List ℕ} {maps : List
 
         -- what may be read then
         reached : reach w left' (shelved d j) s ≡ reach w left d s ++ value ∷ []
-        reached = reach-more w s left left' d (shelved d j) value narrow.base more
+        reached = reach-more w s left left' d (shelved d j) value walk-narrow.base more
 
         -- the statements behind it
         abbrev behind : List Statement
@@ -192,8 +192,7 @@ module _ {m : ℕ} {lists : List (List ℕ)} {constants : List ℕ} {maps : List
         over-more =
             ap (λ (vs : List Poly). over_in most m (w - 1) maps (variables_of (w - 1) s) vs (d.top + j) behind) reached
             ∙ over-next most m (w - 1) maps (variables_of (w - 1) s) (reach w left d s) d.top
-            (get_or statements i blank)
-            behind value j refl value-length (omega (arith, raw-fits, same))
+            t behind value j refl value-length (omega (arith, raw-fits, same))
             ∙ ap (over_in most m (w - 1) maps (variables_of (w - 1) s) (reach w left d s) d.top) (sym here)
             ∙ H.over
 
@@ -218,20 +217,20 @@ module _ {m : ℕ} {lists : List (List ℕ)} {constants : List ℕ} {maps : List
           within = omega arith;
           count = omega (arith, H.count, H.begun);
           top = small;
-          kept = kept_more w s left left' d (shelved d j) value narrow.base more ∙ H.kept;
+          kept = kept_more w s left left' d (shelved d j) value walk-narrow.base more ∙ H.kept;
           rest = rest_more;
           over = over-more;
           stands = stands-more;
         }
 
   -- all statements are walked
-  pub walk-done : (i : ℕ) (left : List ℕ) (d : Shelf) → Now i left d → (i < to → ⊥)
-      → Walked m maps statements from to s d₀ left₀ w most left (record { over = false; line = 0; shelf = d })
+  pub walk-done : (i : ℕ) (left : List ℕ) (d : Shelf) → Now i left d → to ≤ i
+      → Walked m maps statements from to s d₀ left₀ w most left (Ok d)
   walk-done i left d H n =
       let e : i ≡ to = omega (arith, H.within) in
       let G : Now to left d = subst (λ (x : ℕ). Now x left d) e H in
       record {
         decided = sym (over_none most m (w - 1) maps (variables_of (w - 1) s) (reach w left d s) d.top statements to)
             ∙ G.over;
-        finished = λ h. G;
+        finished = λ d' h. subst (Now to left) (let f : d ≡ d' = cc in f) G;
       }

@@ -15,9 +15,8 @@ use Rattle.tokens.specs.Split.{pieces}
 use Rattle.reader.proofs.Laws.Handed.{placed_same}
 use Rattle.rules.specs.Limits.{most_bytes}
 use Rattle.rules.specs.State.{start}
-use Rattle.text.specs.declared.read.Reading as answer
 use Rattle.rules.specs.Read.{Reading, refused, take_lines, read_text}
-use Rattle.text.specs.Reading.{ReadingIs}
+use Rattle.text.specs.Reading.{Answer, ReadingIs}
 use Rattle.text.specs.From.{read_from, ReadsOn}
 
 -- from the start on, the lines of a text give what the text gives
@@ -29,7 +28,7 @@ read-start s =
     (placed_same s (record { at = 0; line = 0 }) (omega arith) (omega arith))
 
 -- a reader opened on a text reads what the text gives
-pub opened-reads : (s : Bor (List ℕ)) (r : Reader) (d : answer.Reading) → r ≡ opened s → ReadsOn r d
+pub opened-reads : (s : Bor (List ℕ)) (r : Reader) (d : Answer) → r ≡ opened s → ReadsOn r d
     → ReadingIs d (read_text s.now)
 opened-reads s r d e R =
     subst (λ (x : Reading). ReadingIs d x) (read-start s.now) (subst (λ (q : Reader). ReadsOn q d) e R)

@@ -4,7 +4,7 @@ use Prim.Native.Nat.{ℕ}
 use mathlib.Core.Path.{◌≡◌, refl}
 use mathlib.Core.Bool.{Bool, true, false, cond}
 use mathlib.Core.List.{List}
-use mathlib.Core.Option.{Option, none, some}
+use Rattle.std.specs.Prelude.{Option, None as none, Some as some}
 use Rattle.grammar.specs.declared.line.Line.{Line}
 use Rattle.tokens.specs.declared.word.Word.{Word}
 use Rattle.reader.specs.declared.cursor.Cursor.{Cursor}

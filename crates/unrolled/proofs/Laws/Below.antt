@@ -4,7 +4,7 @@ use Prim.Native.Nat.{ℕ, ◌+◌, ◌-◌}
 use mathlib.Core.Path.{◌≡◌, refl, sym, ap, ◌∙◌, subst}
 use mathlib.Core.Bool.{Bool, true, false}
 use mathlib.Core.List.{List, [], ◌∷◌, ◌++◌, append_assoc, append-nil}
-use mathlib.Core.Option.{some}
+use Rattle.std.specs.Prelude.{Some as some}
 use lib.Dec.{eqb}
 use lib.ListN.{length, replicate}
 use Rattle.tokens.specs.declared.word.Word.{Word}

@@ -2,7 +2,7 @@
 use Prim.Native.Nat.{ℕ, ◌+◌}
 use mathlib.Core.Path.{◌≡◌, subst}
 use mathlib.Core.List.{List, [], ◌∷◌}
-use mathlib.Core.Option.{some}
+use Rattle.std.specs.Prelude.{Some as some}
 use Rattle.tokens.specs.Split.{pieces}
 use Rattle.tokens.specs.Ascii.{tab}
 use Rattle.grammar.proofs.Laws.Holding.{Holds}

@@ -67,10 +67,10 @@ module _ {s : Scope} {d : Shelf} {x : Op} where
   }
 
   -- app
-  pub app-found : {f : ℕ} {a : Operand} {r : Source} → x ≡ App f a → Narrow s d × Inside s.drawn x → Located s d a r
+  pub app-found : {f : ℕ} {a : Operand} {r : Source} → x ≡ App f a → Narrow s d → Inside s.drawn x → Located s d a r
       → FoundFor s d x (Image f r)
   unfolding found_value found_size given raw_in polynomials apply_size
-  app-found {f} {a} {r} e (N, n) l =
+  app-found {f} {a} {r} e N n l =
       let inside : f < 8 = subst (Inside s.drawn) e n in
       subst (λ (o : Op). FoundFor s d o (Image f r)) (sym e) record {
         means = λ m w lists constants b maps u.

@@ -105,18 +105,6 @@ module _ {w : ℕ} {left : List ℕ} {a b : Source} {right : List ℕ} where
         second = g.terms;
       }
 
-  -- the second load has the room that it asks
-  pub second-asked : (r₁ : List ℕ) → PairAsked left a b right w → length r₁ ≡ length right
-      → LoadAsked left b r₁ (source_size a) w
-  second-asked r₁ q l =
-      let s = q.second in
-      record {
-        top = s.top;
-        held = s.held;
-        fits = s.fits;
-        asked = record { some = s.asked.some; most = s.asked.most; room = omega (arith, s.asked.room) };
-      }
-
   -- both together, as the terms of their sum
   pub pair-terms : (r : List ℕ) → 0 < w → Paired w left a b right r
       → read_terms (w - 1) r 0 (source_size a + source_size b) ≡ source_of w left a ++ source_of w left b
@@ -148,12 +136,6 @@ module _ {w : ℕ} {left right : List ℕ} (r₁ : List ℕ) (a : Source) {top k
         (λ (x : ℕ). LayAsked left top x w) (sym e) l,
   )
 
-  -- what is copied is what was loaded
-  pub copy-formed : {left' : List ℕ} → Laid w right r₁ 0 (source_size a) (source_of w left a)
-      → Laid w left left' top k (terms_at w r₁ 0 k)
-      → Laid w left left' top k (source_of w left a)
-  copy-formed {left'} h g = subst (Laid w left left' top k) (ap (terms_at w r₁ 0) e ∙ h.terms) g
-
 -- ---- the ways out of `form_sum`
 
 module _ {w : ℕ} {left right : List ℕ} {a b : Source} {i k : ℕ} (e : i ≡ source_size a) (f : k ≡ source_size b)
@@ -168,10 +150,6 @@ module _ {w : ℕ} {left right : List ℕ} {a b : Source} {i k : ℕ} (e : i ≡
   -- the first operand's bytes are within the buffer
   pub first-row : i * w ≤ length right
   first-row = omega (arith, pair-rows)
-
-  -- so they are in the buffer that holds both operands
-  pub first-inside : {r₁ : List ℕ} → Paired w left a b right r₁ → i * w ≤ length r₁
-  first-inside p = omega (arith, first-row, p.size)
 
   module _ (r₁ : List ℕ) {top : ℕ} (l : LayAsked left top (source_size a + source_size b) w) where
     -- the sum has the room that it asks

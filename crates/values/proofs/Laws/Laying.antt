@@ -6,7 +6,7 @@ use Prim.Native.Nat.{ℕ, zero, suc, ◌+◌, ◌*◌, ◌-◌, ◌≤◌, ◌<�
 use native.Mathlib.Omega.{arith}
 use native.Mathlib.Decide.{ℕ_discrete}
 use native.Mathlib.Numerals.{add-one}
-use native.Mathlib.Nat.{mul-le-mul_right, add-mul, zero-add, le_of_suc-le-suc, one-mul}
+use native.Mathlib.Nat.{add-mul, zero-add, le_of_suc-le-suc, one-mul}
 use mathlib.Core.List.{List, [], ◌∷◌, ◌++◌}
 use lib.ListN.{length, get_or, take, drop, set, replicate, length-set, length-replicate, length-drop}
 use lib.Seq.{get_or-set_same, get_or-set_other, get_or-take, get_or-drop, length-take-le}
@@ -15,7 +15,6 @@ use Rattle.poly.specs.Size.{one_if}
 use Rattle.buffer.specs.Buffer.{read_terms}
 use Rattle.buffer.specs.Move.{Written}
 use Rattle.buffer.proofs.Lent.Reads.{read_same, read-shift, read-parts, term-written}
-use Rattle.buffer.proofs.Lent.Strides.{row_count}
 use Rattle.values.specs.Shelf.{terms_at, Laid}
 use Rattle.values.specs.Load.{most_term_bytes, LayAsked}
 
@@ -57,10 +56,6 @@ laid-written w b b' at k t p pos room l m h =
     }
 
 -- ---- one polynomial behind another
-
--- nothing is laid yet
-pub laid_none : (w : ℕ) (b : List ℕ) (at : ℕ) → Laid w b b at 0 []
-laid_none w b at = record { size = refl; low = λ i h. refl; terms = refl }
 
 -- terms laid behind terms that are laid
 pub laid_append : (w : ℕ) (b b₁ b₂ : List ℕ) (at j k : ℕ) (p q : Poly) → 0 < w → Laid w b b₁ at j p
@@ -192,11 +187,6 @@ module _ (w : ℕ) (b b' : List ℕ) (at : ℕ) where
       lay-row_law (set z 0 (suc c)) (constant (w - 1) (suc c)) a (omega (arith, length-set z 0 (suc c)))
       (constant-read w z a.some f blank (suc c)) k
 
-  -- a constant that is zero has no term
-  pub lay-nothing_law : (c : ℕ) → c ≡ 0 → Laid w b b at (one_if c) (constant (w - 1) c)
-  lay-nothing_law zero e = laid_none w b at
-  lay-nothing_law (suc c) e = absurd (omega arith)
-
   -- the copied bytes are the terms that stood there
   pub lay-stored_law : (left : List ℕ) (from k : ℕ) → ((from + k) * w ≤ length left) × LayAsked b at k w
       → Written b b' (at * w) (take (from * w + k * w - from * w) (drop (from * w) left))
@@ -228,33 +218,6 @@ variables-more w b b₁ b₂ at i j pos h g =
     subst (Laid w b b₂ at (j + 1)) (sym (units-more (w - 1) i j))
     (laid_append w b b₁ b₂ at j 1 (units (w - 1) i j) (variable (w - 1) (i + j)) pos h g)
 
--- one more place of the room
-pub room-more : (b : List ℕ) (at k w j : ℕ) → j < k → LayAsked b at k w → LayAsked b (at + j) 1 w
-room-more b at k w j h a = record {
-  some = a.some;
-  most = a.most;
-  room = let e : at + j + 1 ≤ at + k = omega arith in omega (arith, mul-le-mul_right w e, a.room);
-}
-
 -- the rows before a place lie in the buffer
 pub rows-below : (b : List ℕ) (at k w : ℕ) → LayAsked b at k w → at * w + k * w ≤ length b
 rows-below b at k w a = omega (arith, add-mul at k w, a.room)
-
--- room for a constant that is not zero
-pub constant-room : (b : List ℕ) (at c w : ℕ) → (c ≡ 0 → ⊥) → LayAsked b at (one_if c) w
-    → at * w + length (take (w - 0) (set (replicate most_term_bytes 0) 0 c)) ≤ length b
-constant-room b at zero w h a = absurd (h refl)
-constant-room b at (suc c) w h a =
-    let z = replicate {A = ℕ} most_term_bytes 0 in
-    let f : w - 0 ≤ length (set z 0 (suc c)) = omega
-    (arith, a.most, length-replicate {A = ℕ} most_term_bytes 0, length-set z 0 (suc c)) in
-    let l : length (take (w - 0) (set z 0 (suc c))) ≡ w - 0 = length-take-le (w - 0) (set z 0 (suc c)) f in
-    omega (arith, l, rows-below b at 1 w a, one-mul w)
-
--- places of the room are small numbers
-pub place-small : (b : List ℕ) (at k w : ℕ) → LayAsked b at k w → at + k ≤ length b
-place-small b at k w a = omega (arith, row_count (at + k) w a.some, a.room)
-
--- the same room in a buffer of the same length
-pub room-same : (b b' : List ℕ) (at k w : ℕ) → length b' ≡ length b → LayAsked b at k w → LayAsked b' at k w
-room-same b b' at k w e a = record { some = a.some; most = a.most; room = omega (arith, a.room) }

@@ -3,6 +3,9 @@
 use mathlib.Core.Path.{◌≡◌, refl, sym, ap, ◌∙◌}
 use Prim.Native.Nat.{ℕ, zero, suc, ◌+◌, ◌*◌, ◌-◌, ◌≤◌, ◌<◌}
 use native.Mathlib.Omega.{arith}
+use Rattle.std.proofs.Common.{not, nat_eq, ne_eqb}
+use Rattle.std.specs.Int.{from_bool}
+use Rattle.poly.specs.Size.{one_if}
 use native.Mathlib.Nat.{mul-le-mul_right, suc-mul}
 use mathlib.Core.List.{List, ◌++◌}
 use lib.ListN.{length, get_or, drop, get_or-append}
@@ -16,7 +19,7 @@ use Rattle.values.specs.declared.shelf.Shelf.{Shelf}
 use Rattle.values.specs.declared.source.Source.{Source}
 use Rattle.values.specs.declared.source.Source.TheVariants.{Constant, Variables, Stored}
 use Rattle.values.specs.declared.source.Scope.{Scope}
-use Rattle.values.specs.Shelf.{stored, value_of, Sound}
+use Rattle.values.specs.Shelf.{slot_at, stored, value_of, Sound}
 use Rattle.values.specs.Source.{source_of, source_size, beginning, variables_of, visible, Located}
 use Rattle.verdict.proofs.Count.{constant-size, units-size}
 use Rattle.verdict.proofs.Laws.Lists.{length-tabulate}
@@ -31,11 +34,15 @@ source-length w b (Constant c) = constant-size (w - 1) c
 source-length w b (Variables i k) = units-size (w - 1) i k
 source-length w b (Stored at k) = read_length (w - 1) b (at * w) k
 
--- a constant that is not zero has one
-pub one-term : (s : Source) (c : ℕ) → s ≡ Constant c → (c ≡ 0 → ⊥) → 1 ≡ source_size s
-unfolding source_size
-one-term s zero e h = absurd (h refl)
-one-term s (suc c) e h = sym (ap source_size e)
+-- a constant that is not zero has one term, and zero has none
+pub one_if-test : (c : ℕ) → from_bool (not (nat_eq c 0)) ≡ one_if c
+one_if-test zero = refl
+one_if-test (suc c) = rw (ne_eqb (suc c) 0 (omega arith))
+
+-- a constant has at most one term
+pub one-most : (c : ℕ) → one_if c ≤ 1
+one-most zero = omega arith
+one-most (suc c) = omega arith
 
 -- ---- the values that a statement may read
 
@@ -84,8 +91,8 @@ module _ (s : Scope) (d : Shelf) (i : ℕ) where
 
   -- the value of a statement
   pub located_stored : Sound d → s.begins ≤ i → s.base ≤ d.count → i - s.begins < d.count - s.base
-      → Located s d (Place i) (Stored (get_or d.starts (s.base + (i - s.begins)) 0)
-      (get_or d.sizes (s.base + (i - s.begins)) 0))
+      → Located s d (Place i) (Stored (slot_at d (s.base + (i - s.begins))).start
+      (slot_at d (s.base + (i - s.begins))).size)
   unfolding source_of operand value_at stored value_of
   located_stored o h k g = record {
     means = λ m w b. sym (visible-later (w - 1) s (stored w b d) _ i h
@@ -97,10 +104,6 @@ module _ (s : Scope) (d : Shelf) (i : ℕ) where
 pub located_byte : (s : Scope) (d : Shelf) (c : ℕ) → Located s d (Byte c) (Constant c)
 unfolding source_of operand polynomials
 located_byte s d c = record { means = λ m w b. refl; fits = λ w l. tt }
-
--- the place of a variable is small
-pub variable-fits : (s : Scope) (i : ℕ) → i < s.begins → i * s.width ≤ s.begins * s.width
-variable-fits s i h = mul-le-mul_right s.width (omega arith)
 
 -- ---- a variable that is drawn
 

@@ -19,7 +19,7 @@ use Rattle.values.specs.Load.{most_term_bytes, LayAsked, LoadAsked}
 use Rattle.values.specs.Form.{PairAsked}
 use Rattle.values.specs.Found.{found_value, found_size}
 use Rattle.values.specs.Value.{FormAsked}
-use Rattle.values.proofs.Laws.Sizes.{one-most}
+use Rattle.values.proofs.Laws.Sources.{one-most}
 
 -- ---- room
 

@@ -1,7 +1,7 @@
 -- The count: `first_over` finds the first place over the limit, and nothing else.
 -- Assumes nothing.
 use Rattle.std.proofs.Common.{◌≡◌, ℕ, zero, suc, ◌+◌, ◌<◌, ◌≤◌, Bool, true, false, cond, ltb, List, [], ◌∷◌, length, sym, refl, arith, ltb-false, ltb-true}
-use mathlib.Core.Option.{none, some}
+use Rattle.std.specs.Prelude.{None as none, Some as some}
 use native.Mathlib.Decide.{dec_le}
 use Rattle.rules.specs.Read.{Routine}
 use Rattle.verdict.specs.Count.{Step, step_at, standing, first_over, Over, First}

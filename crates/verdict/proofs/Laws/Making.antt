@@ -1,9 +1,8 @@
 -- The bytes of a trial taken one by one, and trials made one by one.
 -- Assumes nothing.
-use Rattle.std.proofs.Common.{◌≡◌, ℕ, suc, ◌+◌, ◌-◌, ◌<◌, ◌≤◌, Bool, true, false, cond, List, ◌++◌, length, take, set, sym, ap, ◌∙◌, append_assoc, append-nil, arith, length-take-le}
+use Rattle.std.proofs.Common.{◌≡◌, ℕ, suc, ◌+◌, ◌-◌, ◌<◌, ◌≤◌, Bool, true, false, None, Some, List, ◌++◌, length, take, set, sym, ap, ◌∙◌, append_assoc, append-nil, arith}
 use Rattle.rules.specs.Read.{Routine}
-use Rattle.verdict.specs.declared.trials.Tried as code
-use Rattle.verdict.specs.Trials.{stepped, top_byte, trial_bytes, number_after, Found, nothing, bytes, agrees_on}
+use Rattle.verdict.specs.Trials.{stepped, top_byte, trial_bytes, number_after, Found, agrees_on}
 use Rattle.verdict.specs.Trials.{try_from, found_of}
 use Rattle.verdict.proofs.Laws.Parts.{take_store}
 
@@ -36,19 +35,11 @@ pub number_all : (v i n whole : ℕ) → i ≡ v → whole ≡ number_after (v -
 unfolding number_after
 number_all v i n whole h e = let k : v - i ≡ 0 = omega arith in sym (e ∙ rw k)
 
--- the front part has its length
-pub front_length : (v : ℕ) (bs : List ℕ) → v ≤ length bs → v ≡ length (take (v - 0) bs)
-front_length v bs h =
-    let e : v - 0 ≡ v = omega arith in
-    sym (rw e (length-take-le v bs h))
-
 -- what was told of the front part holds of the trial
 pub trial-told : (r : Routine) (n : ℕ) (bs : List ℕ) {b t : Bool}
     → take r.variables bs ≡ trial_bytes r.variables n
-    → b ≡ agrees_on r (take (r.variables - 0) bs) → b ≡ t → agrees_on r (trial_bytes r.variables n) ≡ t
-trial-told r n bs h p q =
-    let e : r.variables - 0 ≡ r.variables = omega arith in
-    ap (agrees_on r) (sym h ∙ ap (λ (k : ℕ). take k bs) (sym e)) ∙ sym p ∙ q
+    → b ≡ agrees_on r (take r.variables bs) → b ≡ t → agrees_on r (trial_bytes r.variables n) ≡ t
+trial-told r n bs h p q = ap (agrees_on r) (sym h) ∙ sym p ∙ q
 
 -- ---- trials made one by one
 
@@ -66,7 +57,7 @@ module _ (r : Routine) (whole : Found) (k made n : ℕ) where
   -- it differs
   pub try-stop : (bs : List ℕ) → made < k → agrees_on r (trial_bytes r.variables n) ≡ false
       → take r.variables bs ≡ trial_bytes r.variables n → whole ≡ try_from r (k - made) made n
-      → found_of r.variables (record { found = true; made = made + 1; bytes = bs }) ≡ whole
+      → found_of r.variables (Some (record { made = made + 1; bytes = bs })) ≡ whole
   unfolding try_from found_of
   try-stop bs h a p e =
       let l : k - made ≡ suc (k - (made + 1)) = omega arith in
@@ -74,19 +65,6 @@ module _ (r : Routine) (whole : Found) (k made n : ℕ) where
       sym (e ∙ rw (l, a, s, p))
 
   -- none is left
-  pub try-done : (bs : List ℕ) → (made < k → ⊥) → whole ≡ try_from r (k - made) made n
-      → found_of r.variables (record { found = false; made = made; bytes = bs }) ≡ whole
+  pub try-done : k ≤ made → whole ≡ try_from r (k - made) made n → found_of r.variables None ≡ whole
   unfolding try_from found_of
-  try-done bs h e = let l : k - made ≡ 0 = omega arith in sym (e ∙ rw l)
-
--- ---- what was found
-
--- what the code's answer stands for, by cases
-pub found_none : (v : ℕ) (t : code.Tried) {g : Found} → found_of v t ≡ g → t.found ≡ false → g ≡ nothing
-unfolding found_of
-found_none v t e h = sym e ∙ ap (λ (b : Bool). cond b (bytes t.made (take v t.bytes)) nothing) h
-
-pub found_some : (v : ℕ) (t : code.Tried) {g : Found} → found_of v t ≡ g → t.found ≡ true
-    → g ≡ bytes t.made (take v t.bytes)
-unfolding found_of
-found_some v t e h = sym e ∙ ap (λ (b : Bool). cond b (bytes t.made (take v t.bytes)) nothing) h
+  try-done h e = let l : k - made ≡ 0 = omega arith in sym (e ∙ rw l)

@@ -2,16 +2,14 @@
 -- Assumes nothing.
 use Rattle.std.proofs.Common.{◌≡◌, ℕ, zero, suc, ◌+◌, ◌-◌, ◌*◌, List, [], ◌++◌, map, length, take, drop, sym, refl, ap, ◌∙◌, suc-mul, add_comm, zero-mul, arith, take-add, eq-eqb, ne_eqb}
 use Rattle.text.specs.declared.routine.Routine as code
-use Rattle.text.specs.declared.read.Reading as reading
 use Rattle.rules.specs.Read.{Routine}
-use Rattle.text.specs.Reading.{reading_of}
 use Rattle.text.specs.Routine.{routine_of, origin_of, masked_of, outputs_of}
 use Rattle.verdict.specs.Lists.{lots, poured}
 use Rattle.verdict.specs.Meaning.{value_at, values, joined, origin_values, masked_values, result_in, outputs_in}
 use Rattle.verdict.specs.Meaning.{trace, joined_in}
 use Rattle.verdict.specs.Instances.{modulus_of, bytes, bytes_of}
 use Rattle.verdict.specs.Block.{input_values, Begun, Filled}
-use Rattle.verdict.specs.Run.{run_values, result_at, joined_at, run_refused, run_routine, run_reading}
+use Rattle.verdict.specs.Run.{run_values, result_at, joined_at, run_refused, run_routine}
 use Rattle.verdict.proofs.Laws.Lists.{lots-behind}
 
 -- the lots poured out are the front of the list
@@ -79,14 +77,3 @@ module _ (r : Routine) (xs : List ℕ) where
       → record { original = a; joined = b; refusal = 0; line = 0 } ≡ run_routine r xs
   unfolding run_routine
   run_taken a b h p q = rw (eq-eqb (length xs) r.variables h, p, q)
-
-module _ (d : reading.Reading) (xs : List ℕ) where
-  -- what a reading gave was refused
-  pub reading_refused : (d.refusal ≡ 0 → ⊥) → run_refused d.refusal d.line ≡ run_reading (reading_of d) xs
-  unfolding run_reading reading_of
-  reading_refused h = rw (ne_eqb d.refusal 0 h)
-
-  -- or taken
-  pub reading_taken : d.refusal ≡ 0 → run_routine (routine_of d.routine) xs ≡ run_reading (reading_of d) xs
-  unfolding run_reading reading_of
-  reading_taken h = rw (eq-eqb d.refusal 0 h)

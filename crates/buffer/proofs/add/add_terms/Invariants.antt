@@ -3,7 +3,4 @@ use Rattle.buffer.proofs.Lent.Adding.{InAdd}
 use Rattle.buffer.proofs.add.add_terms.Given as goal
 
 abbrev pub invariant-loop-j : goal.invariant-loop-j
-invariant-loop-j l = InAdd l.initial.b l.r l.src l.k l.w l.b l.n l.j l.at
-
-abbrev pub decreases-loop-j : goal.decreases-loop-j
-decreases-loop-j l = l.j
+invariant-loop-j l = InAdd l.initial.b l.r l.src l.k l.w l.b l.n l.j

@@ -1,11 +1,7 @@
 -- The ( stands at the mark, or not. Assumes nothing.
 use Rattle.grammar.proofs.Laws.Measured.{operation_opened, operation_none}
 use mathlib.Core.Path.{sym, ◌∙◌}
-use native.Mathlib.Omega.{arith}
 use Rattle.grammar.proofs.formula.operation_at.Goals as goal
-
-pub overflow_sub-mark : goal.overflow_sub-mark
-overflow_sub-mark c = omega arith
 
 pub returns-then-stands : goal.returns-then-stands
 returns-then-stands c =

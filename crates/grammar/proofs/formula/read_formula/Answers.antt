@@ -1,12 +1,10 @@
 -- The formula ends where the field does, or not. Assumes nothing.
-use Rattle.grammar.proofs.Laws.Paired.{field-read, field-not}
+use Rattle.std.specs.Prelude.{None, Some}
+use Rattle.grammar.proofs.Laws.Paired.{field-read}
 use Rattle.grammar.proofs.formula.read_formula.Goals as goal
 
-pub returns-then-r-f : goal.returns-then-r-f
-returns-then-r-f c =
-    field-read c.args.f.now c.formula-r.result c.formula-r.ensures c.if-r-f.true
+pub returns-in_err-r : goal.returns-in_err-r
+returns-in_err-r c = rw c.from_residual.ensures (field-read c.args.f.now None c.in_err-r.ensures)
 
 pub returns : goal.returns
-returns c =
-    field-not c.args.f.now c.formula-r.result c.part_read.result c.formula-r.ensures
-    c.if-r-f.false c.part_read.ensures
+returns c = rw c.then_some.ensures (field-read c.args.f.now (Some c.in_ok-r.r) c.in_ok-r.ensures)

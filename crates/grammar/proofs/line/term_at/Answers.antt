@@ -1,31 +1,18 @@
 -- What the form of the bytes gives, at their place. Assumes nothing.
+use Rattle.std.proofs.Common.{ℕ, List, ap, sym, ◌∙◌}
+use Rattle.std.specs.Prelude.{Some}
 use Rattle.tokens.specs.Answer.{term_read}
-use Rattle.tokens.specs.Token.{read_term}
+use Rattle.tokens.specs.Token.{read_term, name}
+use Rattle.tokens.specs.declared.token.TermForm.{TermForm}
+use Rattle.grammar.specs.declared.line.NameRef.{NameRef}
+use Rattle.grammar.specs.Line.{name_in}
 use Rattle.grammar.proofs.Laws.Fields.{term_here_lem}
-use Prim.Native.Nat.{ℕ}
-use lib.ListN.{take, drop}
-use mathlib.Core.Path.{◌≡◌, ap, sym, ◌∙◌}
-use mathlib.Core.List.{List}
 use Rattle.grammar.proofs.line.term_at.Goals as goal
-use Rattle.grammar.proofs.line.term_at.Goals.{After-term}
-
--- the form is that of the bytes at the place
-answered : (d : After-term)
-    → let a = d.args in
-    d.term.result ≡ term_read (read_term (take a.len (drop a.at a.s.now)))
-answered d = d.term.ensures ∙ ap (λ (u : List ℕ). term_read (read_term u)) d.part.ensures
 
 pub returns-in-Name : goal.returns-in-Name
 returns-in-Name c =
     let a = c.args in
-    term_here_lem a.s.now a.at a.len (sym c.in-Name.is ∙ answered (goal.at.returns-in-Name c).After-term)
-
-pub returns-in-Byte : goal.returns-in-Byte
-returns-in-Byte c =
-    let a = c.args in
-    term_here_lem a.s.now a.at a.len (sym c.in-Byte.is ∙ answered (goal.at.returns-in-Byte c).After-term)
-
-pub returns-in-Bad : goal.returns-in-Bad
-returns-in-Bad c =
-    let a = c.args in
-    term_here_lem a.s.now a.at a.len (sym c.in-Bad.is ∙ answered (goal.at.returns-in-Bad c).After-term)
+    ap (λ (n : NameRef). Some (name (name_in a.s.now n))) c.placed.ensures
+    ∙ term_here_lem a.s.now a.at a.len (Some (TermForm.Name c.in-Name.n))
+    (sym (ap (λ (x : TermForm). Some x) c.in-Name.is) ∙ c.in_ok-n.ensures
+    ∙ ap (λ (t : List ℕ). term_read (read_term t)) c.part.ensures)

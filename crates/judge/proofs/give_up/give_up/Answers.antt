@@ -1,18 +1,18 @@
--- `judge::give_up::give_up` meets its contract: unknown, or found with its bytes. Assumes nothing.
-use borrow.Author.Tests.{not-true, not-false}
-use Rattle.judge.proofs.Laws.Giving.{gave_unknown, gave_found}
+-- Unknown, or found with its bytes. Assumes nothing.
+use Rattle.std.proofs.Common.{◌≤◌, length, rules}
+use Rattle.judge.proofs.Laws.Giving.{front-copied, gave_unknown, gave_found}
 use Rattle.judge.proofs.give_up.give_up.Goals as goal
 
-pub returns-then-not-f : goal.returns-then-not-f
-returns-then-not-f c =
+pub returns-in-None : goal.returns-in-None
+returns-in-None c =
     let a = c.args in
-    let f = c.try_all-f in
-    gave_unknown a.r a.t a.line _ f.result f.ensures (not-true _ c.if-not-f.true)
-    c.given_up.ensures
+    gave_unknown a.r.routine a.t a.line _ c.try_all.ensures c.in-None.is c.given_up.ensures
 
-pub returns : goal.returns
-returns c =
+pub returns-in-Some : goal.returns-in-Some
+returns-in-Some c =
     let a = c.args in
-    let f = c.try_all-f in
-    gave_found a.r a.t a.line _ f.result f.ensures (not-false _ c.if-not-f.false)
-    c.put_front.ensures c.given_up-2.ensures
+    let bs = c.in-Some.last.bytes in
+    let h : a.r.routine.variables ≤ length bs = search rules in
+    gave_found a.r.routine a.t a.line _ c.try_all.ensures c.in-Some.is
+    (front-copied a.r.routine.variables bs c.copy_from_slice.new.self _ h c.copy_from_slice.ensures.after)
+    c.given_up-in-Some.ensures

@@ -1,51 +1,19 @@
-use borrow.Author.Rules.{rules}
-use native.Mathlib.Omega.{arith}
-use native.Mathlib.Nat.{add-mul, mul-le-mul_right}
-use Prim.Native.Nat.{ℕ, ◌+◌, ◌≤◌}
-use mathlib.Core.Path.{◌≡◌, ap, sym, ◌∙◌}
-use Rattle.verdict.specs.Idle.{failing}
-use Rattle.judge.proofs.Laws.Occurring.{failing-pass, failing-more}
-use Rattle.judge.proofs.idle.count_idle.Invariants.{test}
+use Rattle.std.proofs.Common.{◌≡◌, ◌*◌, ℕ, Bool, not, filter, length, ◌∙◌, arith, rules, tests}
+use Rattle.std.specs.List.{range_with_len}
+use Rattle.std.proofs.lemmas.Iterator.{YieldsList-from_range}
+use Rattle.std.proofs.lemmas.Iterator.Consumers.{YieldsList-from_filter, count_from_yields_List}
+use Rattle.poly.specs.Occurs.{some_occurs}
+use Rattle.values.specs.Shelf.{terms_at}
+use Rattle.judge.proofs.Laws.Occurring.{failing-filter}
 use Rattle.judge.proofs.idle.count_idle.Goals as goal
-use Rattle.judge.proofs.idle.count_idle.Goals.{else-not-some_occurs, then-not-some_occurs}
-
-pub loop-i-init : goal.loop-i-init
-unfolding failing
-loop-i-init c = search rules
-
-pub overflow_mul-i : goal.overflow_mul-i
-overflow_mul-i c =
-    let i = c.loop-i.i in
-    let h : i + 1 ≤ c.args.inputs = omega arith in
-    omega (arith, mul-le-mul_right c.args.shares h, add-mul i 1 c.args.shares, c.requires.powers)
-
-pub some_occurs-requires : goal.some_occurs-requires
-some_occurs-requires c =
-    let i = c.loop-i.i in
-    let h : i + 1 ≤ c.args.inputs = omega arith in
-    record {
-      powers = omega (arith, mul-le-mul_right c.args.shares h, add-mul i 1 c.args.shares, c.requires.powers);
-      room = c.requires.room;
-    }
-
-pub loop-i-preserved : goal.loop-i-preserved
-loop-i-preserved c =
-    let l = c.loop-i in
-    let t = test c.args.shares c.args.b.now c.args.k c.args.w in
-    elim c.if-not-some_occurs.branch [
-      | then-not-some_occurs w ↦
-          let answer = sym c.some_occurs.ensures ∙ w.if-not-some_occurs.true in
-          let next = failing-more l.i t answer in
-          (search rules, omega arith, omega (arith, next))
-      | else-not-some_occurs w ↦
-          let answer = sym c.some_occurs.ensures ∙ w.if-not-some_occurs.false in
-          let next = failing-pass l.i t answer in
-          (search rules, omega arith, omega (arith, next))
-    ]
 
 pub returns : goal.returns
 returns c =
     let a = c.args in
-    let l = c.loop-i in
-    let all : l.i ≡ a.inputs = omega arith in
-    l.invariant.2 ∙ ap (λ (n : ℕ). failing n (test a.shares a.b.now a.k a.w)) all
+    let test : ℕ → Bool = λ i. some_occurs (i * a.shares) a.shares (terms_at a.w a.b.now 0 a.k) in
+    let e : c.count.result ≡ length (filter (λ i. not (test i)) (range_with_len 0 a.inputs)) =
+    count_from_yields_List c.filter.result _ c.count.ensures.ran
+    (YieldsList-from_filter _ (λ i. not (test i))
+    (YieldsList-from_range 0 a.inputs a.inputs c.filter.ensures.source (omega arith))
+    c.filter.ensures.closure (λ x b q k. search (rules, tests))) in
+    e ∙ failing-filter test a.inputs

@@ -5,8 +5,8 @@ use Rattle.judge.proofs.settle.choose.Goals as goal
 
 pub search-requires : goal.search-requires
 search-requires c =
-    search_asked c.requires
+    search_asked c.args.r.ready c.requires
 
 pub returns : goal.returns
 returns c =
-    chosen-listed c.requires _ _ _ c.search.ensures
+    chosen-listed c.args.r.ready c.requires _ _ _ c.search.ensures

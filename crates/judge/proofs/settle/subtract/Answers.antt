@@ -1,33 +1,28 @@
 -- `judge::settle::subtract` meets its contract. One sum of the terms of the result and of all outputs. Assumes nothing.
-use mathlib.Core.Path.{refl}
-use Rattle.judge.proofs.Laws.Lasts.{origin-narrow-at, located_at, last-asked, last-formed}
+use Rattle.judge.proofs.Laws.Lasts.{located_at, last-asked, last-formed}
 use Rattle.judge.proofs.settle.subtract.Goals as goal
-
-pub place-a-requires : goal.place-a-requires
-place-a-requires c =
-    origin-narrow-at c.requires.ready c.requires.standing.directed c.origin_scope.ensures refl
 
 pub form_difference-requires : goal.form_difference-requires
 form_difference-requires c =
     let a' = c.args in
     let p = c.requires in
-    let origin-scope = c.origin_scope in
+    let origin-scope = c.origin_scope-scope in
     let place = c.place-a in
-    let masked-scope = c.masked_scope-s in
+    let masked-scope = c.masked_scope-scope in
     let a = a' in
-    last-asked p.ready p.standing
-    (located_at a.r a.d _ _ origin-scope.ensures place.ensures)
+    last-asked a.r.ready p.standing
+    (located_at a.r.routine a.d _ _ origin-scope.ensures place.ensures)
     p.lent p.fits masked-scope.ensures
 
 pub returns : goal.returns
 returns c =
     let a' = c.args in
     let p = c.requires in
-    let origin-scope = c.origin_scope in
+    let origin-scope = c.origin_scope-scope in
     let place = c.place-a in
-    let masked-scope = c.masked_scope-s in
+    let masked-scope = c.masked_scope-scope in
     let form-difference = c.form_difference in
     let a = a' in
-    last-formed p.ready p.standing
-    (located_at a.r a.d _ _ origin-scope.ensures place.ensures)
+    last-formed a.r.ready p.standing
+    (located_at a.r.routine a.d _ _ origin-scope.ensures place.ensures)
     p.lent p.fits masked-scope.ensures _ _ form-difference.ensures

@@ -1,14 +1,21 @@
 -- The stage says which block it is. Assumes nothing.
-use borrow.Author.Tests.{eq-eqb, ne_eqb}
-use native.Mathlib.Omega.{arith}
+use Rattle.std.proofs.Common.{rules}
+use Rattle.rules.specs.Order.{in_masked}
+use Rattle.lookup.specs.Names.{names_in}
+use Rattle.lines.specs.Stage.{stage_of}
+use lib.Dec.{eqb}
+use mathlib.Core.Bool.{true, false}
+use mathlib.Core.Path.{◌≡◌}
 use Rattle.lines.proofs.known.block_names.Goals as goal
 
-pub returns-then-k-eq-IN_MASKED : goal.returns-then-k-eq-IN_MASKED
-returns-then-k-eq-IN_MASKED c =
-    let K = c.requires in
-    (omega (arith, K.parts, K.variables, K.statements), simp (eq-eqb _ _ c.if-k-eq-IN_MASKED.true))
+pub returns-then-is_masked : goal.returns-then-is_masked
+unfolding names_in
+returns-then-is_masked c =
+    let b : eqb (stage_of c.args.h.known.stage) in_masked ≡ true = search rules in
+    λ s t. simp b
 
 pub returns : goal.returns
+unfolding names_in
 returns c =
-    let K = c.requires in
-    (omega (arith, K.wholes, K.inputs, K.statements), simp (ne_eqb _ _ c.if-k-eq-IN_MASKED.false))
+    let b : eqb (stage_of c.args.h.known.stage) in_masked ≡ false = search rules in
+    λ s t. simp b

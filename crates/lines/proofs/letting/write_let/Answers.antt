@@ -1,32 +1,36 @@
 -- The formula looked up, and an operand alone written as a `set`. Assumes nothing.
 use native.Mathlib.Omega.{arith}
 use mathlib.Core.Path.{refl}
+use Rattle.lookup.specs.Names.{names_in}
 use Rattle.lines.proofs.Laws.LetWriting.{let_looks, let_room, let_alone_lem, let_several}
 use Rattle.lines.proofs.letting.write_let.Goals as goal
 
 pub compile-r-requires : goal.compile-r-requires
 compile-r-requires c =
-    let s = c.args.s.now in
+    let h = c.args.here in
+    let s = h.line.text.now in
+    let t = h.table.now in
     let n = c.block_names-names in
     let p = c.part in (
-      let_looks s c.args.t.now c.args.k c.args.f n.result n.ensures.1 _ p.ensures c.requires.0
-          n.ensures.0 c.requires.1,
+      let_looks s t h.held.known c.args.f n.result (n.ensures s t) _ p.ensures _ refl refl h.held.sound c.requires.0,
       omega arith,
-      let_room s c.args.t.now c.args.k c.args.f n.result n.ensures.1 _ p.ensures c.requires.2,
+      let_room s t h.held.known c.args.f n.result (n.ensures s t) _ p.ensures c.requires.1,
     )
 
 pub returns-then-r-eq0 : goal.returns-then-r-eq0
+unfolding names_in
 returns-then-r-eq0 c =
+    let h = c.args.here in
     let n = c.block_names-names in
     let r = c.compile-r in
-    let_alone_lem c.args.s.now c.args.t.now c.args.k c.args.f n.result n.ensures.1 _
-    c.part.ensures c.args.out.now _ _ r.result r.ensures
-    c.if-r-eq0.true c.put_op.ensures
+    let_alone_lem h.line.text.now h.table.now h.held.known c.args.f n.result (n.ensures h.line.text.now h.table.now) _
+    c.part.ensures c.args.out.now _ _ r.result r.ensures c.if-r-eq0.true refl
 
 pub returns : goal.returns
+unfolding names_in
 returns c =
+    let h = c.args.here in
     let n = c.block_names-names in
     let r = c.compile-r in
-    let_several c.args.s.now c.args.t.now c.args.k c.args.f n.result n.ensures.1 _
-    c.part.ensures c.args.out.now _ _ r.result r.ensures
-    c.if-r-eq0.false refl
+    let_several h.line.text.now h.table.now h.held.known c.args.f n.result (n.ensures h.line.text.now h.table.now) _
+    c.part.ensures c.args.out.now _ _ r.result r.ensures c.if-r-eq0.false refl

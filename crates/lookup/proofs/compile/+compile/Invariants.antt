@@ -4,4 +4,4 @@ use lib.ListN.{length}
 use Rattle.lookup.proofs.compile.+compile.Given as goal
 
 abbrev pub decreases-compile : goal.decreases-compile
-decreases-compile l = length l.f.now - l.at
+decreases-compile l = length l.w.field.now - l.at

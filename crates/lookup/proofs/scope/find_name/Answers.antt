@@ -1,16 +1,20 @@
--- The name is given where its place is below the number of names. Assumes nothing.
-use Rattle.lookup.proofs.Laws.Named.{listed-length}
+-- The names of the set are a part of the table. Assumes nothing.
+use Rattle.lookup.proofs.Laws.Placing.{names_part}
 use Rattle.lookup.specs.Found.{name_found}
-use Rattle.lookup.specs.Names.{names_in}
-use Rattle.rules.specs.Scope.{given, missing}
-use lib.Dec.{ltb}
-use mathlib.Core.Bool.{not}
-use mathlib.Core.Path.{sym}
+use Rattle.grammar.specs.Line.{name_in}
+use Rattle.tokens.specs.Token.{Name}
+use Prim.Native.Nat.{ℕ, ◌+◌, ◌-◌}
+use native.Mathlib.Omega.{arith}
+use lib.ListN.{take, drop}
+use mathlib.Core.List.{List, map}
+use mathlib.Core.Path.{◌≡◌, ap, ◌∙◌}
 use Rattle.lookup.proofs.scope.find_name.Goals as goal
 
 pub returns : goal.returns
-unfolding name_found missing given names_in
 returns c =
     let a = c.args in
-    let long = sym (listed-length a.s.now a.t.now a.set.from a.set.count) in
-    λ i. record { unknown = not (ltb (c.place-place.ensures i) (long i)); place = c.place-place.ensures i }
+    let n = name_in a.s.now a.n in
+    let size : a.set.from + a.set.count - a.set.from ≡ a.set.count = omega arith in
+    c.place.ensures
+    ∙ ap (λ (m : ℕ). name_found (map (name_in a.s.now) (take m (drop a.set.from a.t.now))) n) size
+    ∙ ap (λ (ms : List Name). name_found ms n) (names_part a.s.now a.t.now a.set (omega arith))

@@ -2,7 +2,7 @@
 use Prim.Native.Nat.{◌+◌, ◌*◌, ◌≤◌, ◌<◌}
 use native.Mathlib.Omega.{arith}
 use native.Mathlib.Nat.{mul-le-mul_right}
-use lib.ListN.{length, get_or, length-set}
+use lib.ListN.{length, get_or}
 use Rattle.field.specs.Xor as X
 use Rattle.field.specs.Xor.{◌⊕◌}
 use Rattle.buffer.proofs.Lent.Strides.{next_row, pos_of_ne}
@@ -22,26 +22,11 @@ here c =
     let u : (a.i + 1) * a.w ≤ (a.j + 1) * a.w = mul-le-mul_right a.w (omega (arith, h.2)) in
     (omega (arith, h.3), omega (arith, h.0, h.3), omega (arith, h.3))
 
-pub overflow_mul-at : goal.overflow_mul-at
-overflow_mul-at c = omega (arith, here (goal.at.overflow_mul-at c).Start)
-
-pub bounds-b-at : goal.bounds-b-at
-bounds-b-at c = (here (goal.at.bounds-b-at c).Start).1
-
 pub returns-then-c-eq0 : goal.returns-then-c-eq0
 unfolding X.◌⊕◌
 returns-then-c-eq0 c =
     let a = c.args in
     joined-none a.b.now a.i a.k a.w _ _ c.if-c-eq0.true
-
-pub bounds-b-at-2 : goal.bounds-b-at-2
-bounds-b-at-2 c = (here (goal.at.bounds-b-at-2 c).Start).1
-
-pub take_term-requires : goal.take_term-requires
-take_term-requires c =
-    let a = c.args in
-    let h = c.requires in
-    (h.0, omega (arith, h.1), simp length-set (here (goal.at.take_term-requires c).Start).2)
 
 pub returns : goal.returns
 unfolding X.◌⊕◌

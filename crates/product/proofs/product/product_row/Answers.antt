@@ -1,57 +1,52 @@
-use Prim.Native.Nat.{◌+◌, ◌≤◌}
+-- `product::product::product_row` meets its contract. Assumes nothing.
+use mathlib.Core.Path.{◌≡◌, ap, ◌∙◌}
+use mathlib.Core.List.{◌∷◌, []}
+use Prim.Native.Nat.{◌+◌, ◌*◌, ◌-◌, ◌<◌}
 use native.Mathlib.Omega.{arith}
+use lib.ListN.{length, take, drop, length-append}
 use Rattle.field.proofs.Laws.Ring.{ring}
-use lib.ListN.{length}
-use Rattle.product.proofs.Lent.Products.{row-start, row_done, fits, next_asks, row_asks, row_more}
+use Rattle.std.specs.Slice.Iter.{chunks_exact_rest}
+use Rattle.product.specs.Product.{term_times}
+use Rattle.product.proofs.Lent.Products.{row-wide, row_done, row_asks, row_more}
+use Rattle.product.proofs.Lent.Walks.{first_next, first_none}
 use Rattle.product.proofs.product.product_row.Goals as goal
-use Rattle.product.proofs.product.product_row.Goals.{In-loop-j}
+use Rattle.product.proofs.product.product_row.Goals.{In-Some}
 
--- the next term stands in src
-here : (c : In-loop-j) →
-    let a = c.args in
-    c.loop-j.at + length a.t.now ≤ length a.src.now
-here c = fits c.loop-j.invariant (omega arith)
-
-pub loop-j-init : goal.loop-j-init
-loop-j-init c = row-start c.requires
-
-pub overflow_add-at : goal.overflow_add-at
-overflow_add-at c = omega (arith, here (goal.at.overflow_add-at c).In-loop-j)
-
-pub slice_bounds-term_product-count : goal.slice_bounds-term_product-count
-slice_bounds-term_product-count c = omega (arith, here (goal.at.slice_bounds-term_product-count c).In-loop-j)
-
-pub slice_bounds-term_product-start : goal.slice_bounds-term_product-start
-slice_bounds-term_product-start c = omega (arith, here (goal.at.slice_bounds-term_product-start c).In-loop-j)
-
-pub slice_bounds-term_product-end : goal.slice_bounds-term_product-end
-slice_bounds-term_product-end c = omega (arith, here (goal.at.slice_bounds-term_product-end c).In-loop-j)
-
-pub term_product-requires : goal.term_product-requires
-term_product-requires c = next_asks c.loop-j.invariant (omega arith)
+-- the term that comes, and those that are left
+here : (c : In-Some) →
+    let j = length c.loop-q.yielded in
+    let w = length c.args.t.now in
+    let b = c.args.src.now in
+    (j < c.args.k) × (chunks_exact_rest c.next.new.self ≡ drop ((j + 1) * w) (take (c.args.k * w) b))
+    × (c.in-Some.q.now ≡ take (j * w + w - j * w) (drop (j * w) b))
+here c =
+    let v = c.loop-q.invariant in
+    let s = c.in-Some.ensures.steps in
+    first_next c.args.src.now c.args.k (length c.args.t.now) (row-wide v.row.asked) v.row.asked.source
+    _ _ _ _ v.row.most v.left
+    s.1.0 (s.1.1 ∙ v.size)
 
 pub insert_term-n-requires : goal.insert_term-n-requires
 insert_term-n-requires c =
-    let l = c.loop-j in
-    let p = c.term_product in
-    row_asks l.invariant (omega arith) p.ensures c.t-1.given
+    let h = here (goal.at.insert_term-n-requires c).In-Some in
+    row_asks c.loop-q.invariant.row h.0 (c.term_product.ensures ∙ ap (term_times c.args.m c.args.f.now) h.2)
+    c.term_product.auto.t
 
-pub overflow_add-at-in-loop-j : goal.overflow_add-at-in-loop-j
-overflow_add-at-in-loop-j c = omega (arith, here (goal.at.overflow_add-at-in-loop-j c).In-loop-j)
-
-pub loop-j-preserved : goal.loop-j-preserved
-loop-j-preserved c =
-    let a = c.args in
-    let p = c.term_product in
-    let t' = c.t-1 in
-    row_more c.loop-j.invariant (omega arith) p.ensures t'.given (ring a.m (omega arith))
-    (c.insert_term-n.ensures a.m)
-
-pub shape_of-b : goal.shape_of-b
-shape_of-b c = c.loop-j.invariant.holds.size
-
-pub shape_of-t : goal.shape_of-t
-shape_of-t c = c.loop-j.invariant.spare
+pub loop-q-preserved : goal.loop-q-preserved
+loop-q-preserved c =
+    let v = c.loop-q.invariant in
+    let s = c.in-Some.ensures.steps in
+    let h = here (goal.at.loop-q-preserved c).In-Some in
+    let n = length-append c.loop-q.yielded (c.in-Some.q ∷ []) in
+    rw n (record {
+      row = row_more v.row h.0 (c.term_product.ensures ∙ ap (term_times c.args.m c.args.f.now) h.2)
+          c.term_product.auto.t (ring c.args.m (omega arith)) (c.insert_term-n.ensures c.args.m);
+      left = h.1;
+      size = s.0 ∙ v.size;
+    })
 
 pub returns : goal.returns
-returns c = row_done c.loop-j.invariant (omega arith)
+returns c =
+    let v = c.loop-q.invariant in
+    row_done v.row (first_none c.args.src.now c.args.k (length c.args.t.now) (row-wide v.row.asked) v.row.asked.source
+    _ _ v.row.most v.left (omega (arith, c.in-None.ensures.steps.1.0, v.size)))

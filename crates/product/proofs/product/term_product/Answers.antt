@@ -1,66 +1,27 @@
-use mathlib.Core.Path.{◌≡◌, ◌∙◌}
+-- `product::product::term_product` meets its contract: behind the powers that p has stand those of q. Assumes nothing.
+use mathlib.Core.Path.{◌≡◌, refl, ◌∙◌, subst}
+use Prim.Native.Nat.{◌≤◌}
 use native.Mathlib.Omega.{arith}
 use native.Mathlib.Nat.{le_refl}
-use lib.ListN.{length, set, length-set}
-use Rattle.buffer.proofs.Lent.Terms.{begun_first, begun_more, begun_all}
-use Rattle.product.proofs.Lent.Parts.{part_length}
+use lib.ListN.{length, get_or}
+use Rattle.field.specs.Field.{times}
+use Rattle.buffer.specs.Move.{Written}
+use Rattle.buffer.proofs.Lent.Terms.{Begun, begun_all}
+use Rattle.product.proofs.Lent.Parts.{part_length, returned-written}
 use Rattle.product.proofs.product.term_product.Goals as goal
-
-pub loop-j-init : goal.loop-j-init
-loop-j-init c =
-    let a = c.args in
-    let e : length (set a.t.now 0 c.times.result) ≡ length a.t.now =
-    length-set a.t.now 0 c.times.result in (
-      omega arith,
-      omega arith,
-      omega arith,
-      omega arith,
-      begun_first a.p.now a.q.now a.t.now _ c.times.result (omega arith) c.times.ensures,
-    )
-
-pub bounds-q-j : goal.bounds-q-j
-bounds-q-j c = omega arith
-
-pub bounds-t-j : goal.bounds-t-j
-bounds-t-j c = omega (arith, c.loop-j.invariant.4.size)
-
-pub loop-j-smaller : goal.loop-j-smaller
-loop-j-smaller c = omega arith
-
-pub loop-j-preserved : goal.loop-j-preserved
-loop-j-preserved c =
-    let a = c.args in
-    let l = c.loop-j in (
-      omega arith,
-      omega arith,
-      l.invariant.2,
-      l.invariant.3,
-      begun_more a.p.now a.q.now _ l.t _ l.j c.power_sum.result l.invariant.0
-          (omega (arith, l.invariant.4.size)) c.power_sum.ensures l.invariant.4,
-    )
-
-pub slice_bounds-write_at-count : goal.slice_bounds-write_at-count
-slice_bounds-write_at-count c = omega arith
-
-pub slice_bounds-write_at-start : goal.slice_bounds-write_at-start
-slice_bounds-write_at-start c = omega arith
-
-pub slice_bounds-write_at-end : goal.slice_bounds-write_at-end
-slice_bounds-write_at-end c = omega arith
-
-pub write_at-requires : goal.write_at-requires
-write_at-requires c =
-    let l = c.loop-j in
-    let a = c.args in
-    omega (arith, part_length a.q.now l.j (length a.q.now) (omega arith) (le_refl _), l.invariant.4.size)
-
-pub shape_of-t : goal.shape_of-t
-shape_of-t c =
-    let a = c.args in
-    c.write_at.ensures.size ∙ c.loop-j.invariant.4.size
-    ∙ length-set a.t.now 0 c.times.result
 
 pub returns : goal.returns
 returns c =
     let l = c.loop-j in
-    begun_all l.invariant.4 c.write_at.ensures l.invariant.0 (omega arith) (omega arith) l.invariant.3
+    let a = c.args in
+    let v = c.copy_from_slice in
+    let p = a.p.now in
+    let q = a.q.now in
+    let e : l.j ≡ length p = omega arith in
+    let s : length l.t ≡ length q = omega (arith, l.invariant.size) in
+    let f : length p ≤ length q = omega arith in
+    let h = subst (Begun p q a.t.now l.t (times a.m (get_or p 0 0) (get_or q 0 0))) e l.invariant in
+    begun_all h (subst (Written l.t _ (length p)) v.ensures.after
+    (returned-written l.t (length p) (length l.t) (omega arith) (le_refl _) v.new.self
+    (v.ensures.len ∙ part_length l.t (length p) (length l.t) (omega arith) (le_refl _))))
+    c.requires.0 refl f c.requires.2

@@ -1,6 +1,6 @@
 -- The line ahead says what is handed out. Assumes nothing.
 use native.Mathlib.Omega.{arith}
-use mathlib.Core.Option.{some}
+use Rattle.std.specs.Prelude.{Some as some}
 use mathlib.Core.Path.{◌≡◌, ap, sym, ◌∙◌}
 use Rattle.grammar.specs.declared.line.Line.{Line}
 use Rattle.reader.specs.declared.cursor.Ahead.{Ahead}
@@ -28,11 +28,11 @@ told c e =
 pub look-requires : goal.look-requires
 look-requires c = placed_in _ _ _ _ c.placed-p.ensures
 
-pub hand_line-requires : goal.hand_line-requires
-hand_line-requires c =
+pub invariant_of-hand_line : goal.invariant_of-hand_line
+invariant_of-hand_line c =
     let s = c.args.s.now in
     let p = c.placed-p.result in
-    let A = look-line s p _ _ (seen (goal.at.hand_line-requires c).After-look c.in-Line.is) in
+    let A = look-line s p _ _ (seen (goal.at.invariant_of-hand_line c).After-look c.in-Line.is) in
     let from = ap (λ (l : Line). l.from) A.1 in
     let len = ap (λ (l : Line). l.len) A.1 in
     omega (arith, from, len, A.0, end_ge s p.at)

@@ -13,6 +13,3 @@ decreases-loop-left l = 256 - l.a
 
 abbrev pub invariant-loop-i : goal.invariant-loop-i
 invariant-loop-i l = Finding l.m l.initial.b l.k l.w l.initial.bytes l.b l.bytes l.left l.tried l.i
-
-abbrev pub decreases-loop-i : goal.decreases-loop-i
-decreases-loop-i l = l.w - l.i

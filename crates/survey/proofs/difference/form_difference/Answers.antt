@@ -1,22 +1,7 @@
 -- `survey::difference::form_difference` meets its contract. The terms of the result and of all outputs inserted among
 -- none. Assumes nothing.
-use Rattle.survey.proofs.Laws.Outputs.{outputs-asked, difference-asked, difference-formed}
+use Rattle.survey.proofs.Laws.Outputs.{difference-formed}
 use Rattle.survey.proofs.difference.form_difference.Goals as goal
-
-pub load_outputs-k-requires : goal.load_outputs-k-requires
-load_outputs-k-requires c =
-    let p = c.requires in
-    let load = c.load in
-    let size-of = c.size_of-i in
-    outputs-asked size-of.ensures p.0 p.1 p.2 load.ensures
-
-pub add_terms-requires : goal.add_terms-requires
-add_terms-requires c =
-    let p = c.requires in
-    let load = c.load in
-    let size-of = c.size_of-i in
-    let load-outputs = c.load_outputs-k in
-    difference-asked size-of.ensures p.0 p.1 p.2 load.ensures load-outputs.ensures
 
 pub returns : goal.returns
 returns c =

@@ -1,10 +1,7 @@
--- `outputs_size` meets its contract. Invariant: the first i places are counted. Assumes nothing.
-use Prim.Native.Nat.{◌≤◌, ◌-◌}
+-- The invariant: the places before this one are counted. Assumes nothing.
+use Rattle.std.proofs.Common.{take}
 use Rattle.survey.specs.Difference.{OutputsSized}
 use Rattle.survey.proofs.difference.outputs_size.Given as goal
 
-abbrev pub invariant-loop-i : goal.invariant-loop-i
-invariant-loop-i l = (l.i ≤ l.named) × OutputsSized l.outputs l.i l.s l.d l.k
-
-abbrev pub decreases-loop-i : goal.decreases-loop-i
-decreases-loop-i l = l.named - l.i
+abbrev pub invariant-loop-p : goal.invariant-loop-p
+invariant-loop-p l = OutputsSized (take l.p-index l.outputs) l.v.scope l.v.shelf l.k

@@ -7,24 +7,18 @@ use Rattle.reader.proofs.Laws.Handed.{placed_in}
 use Rattle.rules.specs.State.{start}
 use Rattle.rules.specs.Read.{refused, take_lines}
 use Rattle.text.specs.From.{lines_from, read_from}
-use native.Mathlib.Omega.{arith}
 use mathlib.Core.Path.{ap, sym, ◌∙◌}
 use lib.ListN.{length, drop}
 use Rattle.text.proofs.read.read_from.Goals as goal
-
-pub refuse-requires : goal.refuse-requires
-refuse-requires c = λ z. absurd (omega (arith, z))
 
 pub returns-then-s-gt-MOST_BYTES : goal.returns-then-s-gt-MOST_BYTES
 unfolding read_from
 returns-then-s-gt-MOST_BYTES c =
     let s = c.args.s.now in
     record {
-      answer = c.refuse.ensures.answer
-          ∙ ap (λ (b : Bool). cond b (refused 2 0) (lines_from s c.args.at c.args.line))
+      answer = ap (λ (b : Bool). cond b (refused 2 0) (lines_from s c.args.at c.args.line))
           (sym (lt-ltb 16384 (length s) c.if-s-gt-MOST_BYTES.true));
-      taken = c.refuse.ensures.taken;
-      held = c.refuse.ensures.held;
+      held = tt;
     }
 
 pub read_lines-requires : goal.read_lines-requires
@@ -43,6 +37,5 @@ returns c =
           ∙ (λ i. take_lines start (P i).line (pieces line_feed (drop (P i).at s)))
           ∙ ap (λ (b : Bool). cond b (refused 2 0) (lines_from s c.args.at c.args.line))
           (sym (le-ltb 16384 (length s) c.if-s-gt-MOST_BYTES.false));
-      taken = R.taken;
       held = R.held;
     }

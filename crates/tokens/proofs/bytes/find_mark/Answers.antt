@@ -1,20 +1,15 @@
-use Rattle.tokens.proofs.Laws.Scan.{until-pass, until_stop, until-done}
-use borrow.Author.Rules.{rules}
-use mathlib.Core.Path.{refl, sym, ◌∙◌}
-use native.Mathlib.Omega.{arith}
+use Rattle.std.proofs.Common.{rules, tests, take, drop, length, ℕ, ap, ◌+◌, ◌-◌, ◌∙◌}
+use Rattle.std.proofs.lemmas.Iterator.{YieldsList-from_slice}
+use Rattle.std.proofs.lemmas.Iterator.Search.{position_from_yields_List}
+use Rattle.tokens.proofs.Laws.Library.{until-after}
+use Rattle.tokens.specs.Ascii.{is_mark}
 use Rattle.tokens.proofs.bytes.find_mark.Goals as goal
 
-pub loop-i-init : goal.loop-i-init
-loop-i-init c = (search rules, refl)
-
-pub returns-then-is_mark : goal.returns-then-is_mark
-returns-then-is_mark c =
-    until_stop 0 _ _ c.loop-i.i (omega arith) (sym c.is_mark.ensures ∙ c.if-is_mark.true) c.loop-i.invariant.1
-
-pub loop-i-preserved : goal.loop-i-preserved
-loop-i-preserved c =
-    let passed = sym c.is_mark.ensures ∙ c.if-is_mark.false in
-    (omega arith, until-pass 0 _ _ c.loop-i.i (omega arith) passed c.loop-i.invariant.1)
-
 pub returns : goal.returns
-returns c = until-done 0 _ _ c.loop-i.i (omega arith) c.loop-i.invariant.1
+returns c =
+    let a = c.args in
+    let rest = take (length a.s.now - a.at) (drop a.at a.s.now) in
+    ap (λ (n : ℕ). a.at + n) (c.unwrap_or.ensures
+    ∙ until-after is_mark a.at a.s.now
+    (position_from_yields_List _ _ _ c.position.result c.position.ensures.ran
+    (YieldsList-from_slice rest c.iter.ensures.rest) (λ x b q k. search (rules, tests))))

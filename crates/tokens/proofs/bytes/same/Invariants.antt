@@ -1,13 +1,6 @@
 -- The invariant: from place `i` on the bytes agree. Assumes nothing.
-use Prim.Native.Nat.{◌≤◌}
-use Rattle.tokens.specs.Ascii.{same_bytes}
-use lib.ListN.{length, drop}
-use mathlib.Core.Bool.{true}
-use mathlib.Core.Path.{◌≡◌}
+use Rattle.std.proofs.Common.{◌≡◌, ◌≤◌, ◌<◌, length, ℕ, slice_index_or}
 use Rattle.tokens.proofs.bytes.same.Given as goal
 
 abbrev pub invariant-loop-i : goal.invariant-loop-i
-invariant-loop-i l = (l.i ≤ length l.a) × (same_bytes (drop l.i l.a) (drop l.i l.b) ≡ true)
-
-abbrev pub decreases-loop-i : goal.decreases-loop-i
-decreases-loop-i l = l.i
+invariant-loop-i l = (k : ℕ) → l.i ≤ k → k < length l.a → slice_index_or l.a k 0 ≡ slice_index_or l.b k 0

@@ -1,13 +1,9 @@
--- The invariant: `n` separators are passed, and the rest of the pieces are those of what is left. Assumes nothing.
-use Prim.Native.Nat.{◌≤◌, ◌-◌, ◌+◌}
-use Rattle.tokens.specs.Split.{pieces}
-use lib.ListN.{length, drop}
-use mathlib.Core.Path.{◌≡◌}
+-- The invariant: the separators among the first bytes are counted, and one. Assumes nothing.
+use Rattle.std.proofs.Common.{◌≡◌, ◌+◌, ◌≤◌, length, take}
+use lib.Dec.{eqb}
+use Rattle.std.specs.List.{filter}
 use Rattle.tokens.proofs.split.count.Given as goal
 
-abbrev pub invariant-loop-i : goal.invariant-loop-i
-invariant-loop-i l =
-    (l.i ≤ length l.s) × (l.n ≤ l.i) × (length (pieces l.sep l.s) ≡ l.n + length (pieces l.sep (drop l.i l.s)))
-
-abbrev pub decreases-loop-i : goal.decreases-loop-i
-decreases-loop-i l = length l.s - l.i
+abbrev pub invariant-loop-b : goal.invariant-loop-b
+invariant-loop-b l =
+    (l.n ≡ length (filter (λ b. eqb b l.sep) (take l.b-index l.s)) + 1) × (l.n ≤ l.b-index + 1)

@@ -1,19 +1,10 @@
 -- `values::form::load_pair` meets its contract. The second load leaves the first. Assumes nothing.
-use mathlib.Core.Path.{subst, sym}
+use mathlib.Core.Path.{subst}
 use Prim.Native.Nat.{ℕ}
 use Rattle.values.specs.Shelf.{Laid}
 use Rattle.values.specs.Source.{source_of, source_size}
-use Rattle.values.specs.Load.{LoadAsked}
-use Rattle.values.proofs.Laws.Forming.{paired, second-asked}
+use Rattle.values.proofs.Laws.Forming.{paired}
 use Rattle.values.proofs.form.load_pair.Goals as goal
-
-pub load-requires-2 : goal.load-requires-2
-load-requires-2 c =
-    let a = c.args in
-    let p = c.requires in
-    let load = c.load in
-    subst (λ (x : ℕ). LoadAsked a.left.now a.b load.new.right x a.w) (sym c.size_of.ensures)
-    (second-asked load.new.right p load.ensures.size)
 
 pub returns : goal.returns
 returns c =

@@ -1,15 +1,11 @@
-use borrow.Author.Rules.{rules}
-use Rattle.values.proofs.Laws.Sizes.{counted_none, counted-more, counted_same, counted-all}
+use Rattle.std.proofs.Common.{◌≡◌, count_by, not, nat_eq, length, sym, ◌∙◌, arith, rules}
+use Rattle.std.proofs.lemmas.List.Sums.{count_by-le-length}
+use Rattle.values.proofs.Laws.Sizes.{nonzeros-count}
 use Rattle.values.proofs.raw.count_nonzero.Goals as goal
 
-pub loop-j-init : goal.loop-j-init
-loop-j-init c = counted_none c.args.list (search rules)
-
-pub loop-j-preserved-then-list-j-ne0 : goal.loop-j-preserved-then-list-j-ne0
-loop-j-preserved-then-list-j-ne0 c = counted-more (search rules) c.if-list-j-ne0.true c.loop-j.invariant
-
-pub loop-j-preserved : goal.loop-j-preserved
-loop-j-preserved c = counted_same (search rules) c.if-list-j-ne0.false c.loop-j.invariant
-
 pub returns : goal.returns
-returns c = counted-all (search rules) c.loop-j.invariant
+returns c =
+    let list = c.args.list in
+    let e : c.count.result ≡ count_by (λ c. not (nat_eq c 0)) list = search rules in
+    let l8 : length list ≡ 8 = search rules in
+    (e ∙ sym (nonzeros-count list), omega (arith, count_by-le-length (λ c. not (nat_eq c 0)) list))

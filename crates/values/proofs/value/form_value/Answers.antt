@@ -18,9 +18,6 @@ form_product-requires c =
     product_asked c.requires
     c.in-Product.is
 
-pub bounds-constants-f : goal.bounds-constants-f
-bounds-constants-f c = (image-asked c.requires c.in-Image.is).1
-
 pub form_image-requires : goal.form_image-requires
 form_image-requires c =
     image-asked c.requires

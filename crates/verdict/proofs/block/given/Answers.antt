@@ -26,7 +26,7 @@ returns-in-Mul c =
 pub returns-in-App : goal.returns-in-App
 unfolding given
 returns-in-App c =
-    let e = ap₂ (bytes _).apply c.map_at-map.ensures c.operand-in-App.ensures in
+    let e = ap₂ (bytes _).apply c.map_at.ensures c.operand-in-App.ensures in
     rw c.in-App.is (c.applied.ensures ∙ e)
 
 pub returns-in-Rand : goal.returns-in-Rand

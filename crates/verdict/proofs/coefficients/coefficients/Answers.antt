@@ -5,7 +5,8 @@ use Rattle.verdict.proofs.coefficients.coefficients.Goals as goal
 
 pub returns-then-list-ne9 : goal.returns-then-list-ne9
 unfolding map_report
-returns-then-list-ne9 c = record { answered = rw (ne_eqb (length c.args.list.now) 9 c.if-list-ne9.true) }
+returns-then-list-ne9 c =
+    record { answered = rw (ne_eqb (length c.args.list.now) 9 c.if-list-ne9.true, c.number.ensures) }
 
 pub returns : goal.returns
 unfolding map_report

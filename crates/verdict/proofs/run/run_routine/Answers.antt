@@ -8,11 +8,11 @@ pub returns-then-xs-r : goal.returns-then-xs-r
 unfolding routine_of
 returns-then-xs-r c =
     let g = c.args in
-    c.refused.ensures ∙ run_refused_lem (routine_of g.r) g.xs.now c.if-xs-r.true
+    c.refused.ensures ∙ run_refused_lem (routine_of g.r.routine) g.xs.now c.if-xs-r.true
 
 pub returns : goal.returns
 unfolding routine_of
 returns c =
     let g = c.args in
     let same = c.if-xs-r.false in
-    run_taken (routine_of g.r) g.xs.now _ _ same c.original-a.ensures c.masked-b.ensures
+    run_taken (routine_of g.r.routine) g.xs.now _ _ same c.original-a.ensures c.masked-b.ensures

@@ -1,8 +1,0 @@
--- The columns are there, or they are not. Assumes nothing.
-use mathlib.Core.Path.{ap, ◌∙◌}
-use Rattle.tokens.specs.Token.{is_some}
-use Rattle.reader.proofs.Laws.Handed.{told-some}
-use Rattle.reader.proofs.formed.has_columns.Goals as goal
-
-pub returns : goal.returns
-returns c = told-some _ _ ∙ ap is_some c.read_columns-columns.ensures
