@@ -28,7 +28,8 @@ pub fn move_up(b: &mut [u8], from: usize, to: usize, by: usize)
     b.copy_within(from..to, from + by);
 }
 
-// The bytes from..to moved down by `by`.
+// The bytes from..to moved down by `by`. No twin of `move_up`: each asks for another bound, and a
+// place to move to in place of both would have to be bounded twice.
 pub fn move_down(b: &mut [u8], from: usize, to: usize, by: usize)
     requires { (from ≤ to) × (by ≤ from) × (to ≤ length b.old) }
     ensures { MovedDown b.old b.new from to by }

@@ -84,7 +84,7 @@ pub fn apply(c: u8, columns: [u8; 8], x: u8) -> u8
 // The dual bytes of 1, 2, 4, .. 128 for the modulus 1b.
 const DUAL_1B: [u8; 8] = [41, 176, 88, 5, 166, 83, 164, 82];
 
-// The same for the modulus 1d.
+// The same for the modulus 1d: data for data, told apart by `dual` alone.
 const DUAL_1D: [u8; 8] = [173, 216, 193, 67, 2, 1, 142, 71];
 
 // The dual byte of 2 to the power i.

@@ -83,6 +83,8 @@ pub fn operation_at(f: &[u8], at: usize, mark: usize) -> Operation
 }
 
 // The operation that a word before ( is.
+// Compared in turn, and not by a table as the words of records are: it is asked twice for each
+// operation, and the three are as short to write.
 #[tactic(auto, unfolding(crate::specs::Formula::operation_of, tokens::specs::Ascii::ascii))]
 pub fn operation_of(w: &[u8]) -> Operation
     ensures { result ≡ operation_of w.now }
@@ -121,7 +123,7 @@ pub fn map_name(f: &[u8], at: usize) -> Option<FormulaRead>
 
 // What was read, and behind it the byte m.
 #[tactic(auto, unfolding(crate::specs::Measured::passed_over))]
-pub fn passed(f: &[u8], r: FormulaRead, m: u8) -> Option<FormulaRead>
+pub(crate) fn passed(f: &[u8], r: FormulaRead, m: u8) -> Option<FormulaRead>
     requires { r.end ≤ length f.now }
     ensures { result ≡ passed_over f.now r m }
 {
@@ -133,7 +135,7 @@ pub fn passed(f: &[u8], r: FormulaRead, m: u8) -> Option<FormulaRead>
 }
 
 // An operation on two parts, that ends where b does.
-pub fn joined(a: FormulaRead, b: FormulaRead) -> FormulaRead
+pub(crate) fn joined(a: FormulaRead, b: FormulaRead) -> FormulaRead
     requires { Joins a b }
     ensures { result ≡ joined_of a b }
 {
@@ -153,7 +155,7 @@ pub fn stands(f: &[u8], at: usize, m: u8) -> bool
 }
 
 // A part of a formula without operations, that ends at a place.
-pub fn part_read(end: usize) -> FormulaRead
+pub(crate) fn part_read(end: usize) -> FormulaRead
     ensures { result ≡ alone end }
 {
     FormulaRead {

@@ -17,7 +17,8 @@ pub struct Line {
     pub len: usize,
 }
 
-// A name: where the bytes before its dot stand, and the digit behind it, or NO_PART.
+// A name: where the bytes before its dot stand, and the digit behind it, or NO_PART. A field's
+// `NameForm` has no place in the text, and that is all in which the two differ.
 #[derive(Clone, Copy, PartialEq, Eq, Debug)]
 pub struct NameRef {
     pub at: usize,
@@ -25,7 +26,7 @@ pub struct NameRef {
     pub part: u8,
 }
 
-// An operand in the text.
+// An operand in the text: a field's `TermForm` with its place.
 #[derive(Clone, Copy, PartialEq, Eq, Debug)]
 pub enum TermRef {
     Name(NameRef),

@@ -107,7 +107,7 @@ pub fn may_have(w: Word, n: usize) -> bool
 
 // A statement that gives the name of field 1.
 #[tactic(auto, unfolding(crate::specs::Recorded::record_in))]
-pub fn assign(l: TextLine, f: FormRead) -> Option<Rec>
+pub(crate) fn assign(l: TextLine, f: FormRead) -> Option<Rec>
     ensures { record_at l.entry.text.now (pieces_of l.entry) result
         ≡ assigned (pieces_of l.entry) (Some (form_in l.entry.text.now f)) }
 {
@@ -115,7 +115,7 @@ pub fn assign(l: TextLine, f: FormRead) -> Option<Rec>
 }
 
 // `xor` or `mul` on two operands.
-pub fn two_form(l: TextLine, f: Binary) -> Option<FormRead>
+pub(crate) fn two_form(l: TextLine, f: Binary) -> Option<FormRead>
     ensures { form_at l.entry.text.now result ≡ operands (binary f) (pieces_of l.entry) }
 {
     let a = l.term_field(2)?;
@@ -124,7 +124,7 @@ pub fn two_form(l: TextLine, f: Binary) -> Option<FormRead>
 }
 
 // A map on an operand.
-pub fn app_form(l: TextLine) -> Option<FormRead>
+pub(crate) fn app_form(l: TextLine) -> Option<FormRead>
     ensures { form_at l.entry.text.now result ≡ image (pieces_of l.entry) }
 {
     let f = l.plain_field(2)?;

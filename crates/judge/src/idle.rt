@@ -49,7 +49,7 @@ pub(crate) fn idle(r: Accepted, d: Shelf, left: &[u8], right: &mut [u8]) -> usiz
     ensures { result ≡ idle (routine_of r.routine) }
 {
     let routine = r.routine;
-    let scope = origin_scope(r);
+    let scope = origin_scope(routine);
     let a = View { scope, shelf: d }.place(routine.result);
     let w = routine.variables + 1;
     load(left, a, right, 0, w);

@@ -3,6 +3,8 @@ use Rattle.std.specs.Prelude.{ℕ, ◌≡◌, Bool, true, not, cond, List, [], �
 use Rattle.std.specs.Prelude.{Option, None as none, Some as some}
 use Rattle.lines.specs.declared.known.Known.{Known}
 use Rattle.lines.specs.declared.setting.Setting.{Setting}
+use Rattle.lookup.specs.declared.names.Names.{Names}
+use Rattle.lookup.specs.declared.names.Set.{Set}
 use Rattle.lines.specs.declared.step.Step.{Step}
 use Rattle.rules.specs.declared.types.Op.{Op}
 use Rattle.tokens.specs.declared.word.Word.{Word}
@@ -60,6 +62,10 @@ text_of here = here.line.text.now
 -- the names of the lines above it
 abbrev pub names_above : Setting → List NameRef
 names_above here = here.table.now
+
+-- a set of the names above, by their places in the text
+abbrev pub set_of : Setting → Names → Set
+set_of here ns = record { text = here.line.text; table = here.table; names = ns }
 
 -- a record that is taken may stand here, behind it the stage is the same, and what it gives is within the limits
 pub record Stepped (codes : List Op) (here : Setting) (r : Step) : Type 0 where

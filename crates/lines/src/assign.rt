@@ -9,7 +9,6 @@ use crate::step::{Put, Step, first_fault};
 use grammar::line::NameRef;
 use grammar::record::FormRead;
 use lookup::names::Names;
-use lookup::scope;
 use rules::types::Statement;
 use tokens::refusal::Refusal;
 
@@ -18,13 +17,13 @@ pub(crate) fn take_statement(here: Setting, x: NameRef, f: FormRead) -> Result<S
     ensures { TookAny here.entry (record_at here.entry (rec.Assign x f)) result }
 {
     let k = here.held.known;
-    let set = known::block_names(here.held);
+    let set = here.set(known::block_names(here.held));
     let maps = Names {
         from: 0,
         count: k.mapped,
     };
-    let form = scope::find_form(here.line.text, here.table, set, maps, k.variables, f);
-    let given = scope::is_given(here.line.text, here.table, set, x);
+    let form = set.find_form(maps, k.variables, f);
+    let given = set.is_given(x);
     let many = known::is_crowded(here.held, form.drawn);
     first_fault(here.stands, given, form.unknown, many, false)?;
     let st = Statement {

@@ -10,7 +10,6 @@ use crate::step::{Put, Step, first_fault};
 use grammar::line::NameRef;
 use grammar::lists;
 use lookup::names::Names;
-use lookup::scope;
 use rules::limits::{MOST_INPUTS, MOST_MAPS, MOST_VARIABLES, ORIGIN_FROM};
 use rules::types::AffineMap;
 use tokens::refusal::Refusal;
@@ -35,11 +34,11 @@ pub(crate) fn take_map(here: Setting, x: NameRef, constant: u8) -> Result<Step, 
 {
     let k = here.held.known;
     let columns = lists::read_columns(here.line).ok_or(Refusal::Form)?;
-    let set = Names {
+    let set = here.set(Names {
         from: 0,
         count: k.mapped,
-    };
-    let given = scope::is_given(here.line.text, here.table, set, x);
+    });
+    let given = set.is_given(x);
     let many = MOST_MAPS < k.mapped + 1;
     first_fault(here.stands, given, false, many, false)?;
     let mut next = k;
@@ -55,11 +54,11 @@ pub(crate) fn take_input(here: Setting, x: NameRef) -> Result<Step, Refusal>
     ensures { TookAny here.entry (record_at here.entry (rec.Input x)) result }
 {
     let k = here.held.known;
-    let set = Names {
+    let set = here.set(Names {
         from: ORIGIN_FROM,
         count: k.wholes,
-    };
-    let given = scope::is_given(here.line.text, here.table, set, x);
+    });
+    let given = set.is_given(x);
     let fifth = MOST_INPUTS < k.inputs + 1;
     let over = MOST_VARIABLES < k.variables + k.shares;
     first_fault(here.stands, given, false, fifth | over, false)?;

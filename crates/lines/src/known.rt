@@ -12,8 +12,9 @@ use lookup::names::Names;
 use rules::limits::{MASKED_FROM, MOST_STATEMENTS, MOST_VARIABLES, ORIGIN_FROM};
 use tokens::limits::MOST_SHARES;
 
-// The state of reading between two lines, but for the names, maps and statements themselves. There
-// is no heap, so the places of the outputs are an array, and how many there are stands beside it.
+// The state of reading between two lines, but for the names, maps and statements themselves. The
+// places of the outputs are an array with their number beside it: it is handed on by value, and the
+// definitions (`state_in`) speak of both.
 #[derive(Clone, Copy)]
 pub struct Known {
     pub stage: Stage,
@@ -52,7 +53,8 @@ pub fn begin() -> Limited
     Limited { known }
 }
 
-// The names of the block that a statement stands in.
+// The names of the block that a statement stands in. Sets of names are written where they are asked
+// for, since each shows its own bound.
 pub(crate) fn block_names(h: Limited) -> Names
     ensures { (s : List ℕ) (t : List NameRef) → names_in s t result ≡ block_names s t h.known }
 {

@@ -15,9 +15,9 @@ use crate::setting::Setting;
 use crate::step::{Letting, Put, Step, first_fault};
 use grammar::formula;
 use grammar::line::NameRef;
+use lookup::compile;
 use lookup::compile::{Lookup, Ops};
 use lookup::names::Names;
-use lookup::{compile, scope};
 use rules::limits::MOST_STATEMENTS;
 use rules::types::Op;
 use tokens::limits::MOST_DEPTH;
@@ -58,8 +58,8 @@ pub(crate) fn take_shallow(
 {
     let k = here.held.known;
     let unknown = write_let(here, f, ops);
-    let set = known::block_names(here.held);
-    let given = scope::is_given(here.line.text, here.table, set, x);
+    let set = here.set(known::block_names(here.held));
+    let given = set.is_given(x);
     let many = MOST_STATEMENTS < k.origin + k.masked + f.count;
     first_fault(here.stands, given, unknown, many, false)?;
     let next = known::with_statements(here.held, 0, f.count);
@@ -86,9 +86,7 @@ pub(crate) fn write_let(here: Setting, f: Letting, out: &mut Ops) -> bool
         count: here.held.known.mapped,
     };
     let w = Lookup {
-        text: here.line.text,
-        table: here.table,
-        names,
+        set: here.set(names),
         maps,
         field: split::part(here.line.text, f.at, f.len),
         from: f.at,

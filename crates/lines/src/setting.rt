@@ -5,6 +5,7 @@ ghost use Rattle.lines.specs.Stage.{stage_of};
 
 use crate::limited::Limited;
 use grammar::line::TextLine;
+use lookup::names::{Names, Set};
 use lookup::table::Table;
 
 // The names of the lines above, what else is known above a record, its line and the line's number,
@@ -18,4 +19,19 @@ pub struct Setting<'a> {
     pub number: usize,
     pub stands: bool,
     ghost low: { stands ≡ true → stage_of held.known.stage ≤ in_masked },
+}
+
+impl<'a> Setting<'a> {
+    ghost use Rattle.lines.specs.Taken.{set_of};
+
+    // A set of the names of the lines above.
+    pub(crate) fn set(self, names: Names) -> Set<'a>
+        ensures { result ≡ set_of self.entry names }
+    {
+        Set {
+            text: self.line.text,
+            table: self.table,
+            names,
+        }
+    }
 }

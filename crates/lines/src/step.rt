@@ -17,7 +17,7 @@ pub struct Letting {
 }
 
 // What a record gives: nothing, a map with its name, an input's name, a statement with its name, or
-// a formula with its name. Nothing is a case like the others: no one asks whether there is anything.
+// a formula with its name. Nothing is a case like the others: no one asks if there is anything.
 #[derive(Clone, Copy)]
 pub enum Put {
     Nothing,
@@ -34,7 +34,7 @@ pub struct Step {
     pub put: Put,
 }
 
-// The first fault of a record, where it has one.
+// The first fault of a record, where it has one; the five tests are those of its definition.
 #[tactic(auto, unfolding(crate::specs::Taken::first_fault, rules::specs::Read::first_of))]
 pub(crate) fn first_fault(
     stands: bool,

@@ -14,7 +14,7 @@ use grammar::lists;
 use grammar::record::Rec;
 use lookup::compile::Ops;
 use lookup::names::Names;
-use lookup::{outputs, scope};
+use lookup::outputs;
 use rules::limits::{MASKED_FROM, ORIGIN_FROM};
 use tokens::refusal::Refusal;
 
@@ -53,13 +53,14 @@ pub(crate) fn take_result(here: Setting, x: NameRef) -> Result<Step, Refusal>
     ensures { TookAny here.entry (record_at here.entry (rec.Result x)) result }
 {
     let k = here.held.known;
-    let set = Names {
+    let set = here.set(Names {
         from: ORIGIN_FROM,
         count: k.wholes,
-    };
-    let found = scope::find_name(here.line.text, here.table, set, x);
+    });
+    let found = set.find(x);
     first_fault(here.stands, false, found.is_none(), false, false)?;
     let mut next = k;
+    // it is some: a name that is not given is refused above
     next.result = found.unwrap_or(k.wholes);
     Ok(Step {
         held: Limited { known: next },
@@ -73,12 +74,12 @@ pub(crate) fn take_output(here: Setting) -> Result<Step, Refusal>
 {
     let k = here.held.known;
     let read = lists::read_outputs(here.line).ok_or(Refusal::Form)?;
-    let set = Names {
+    let set = here.set(Names {
         from: MASKED_FROM,
         count: k.parts,
-    };
+    });
     let repeats = outputs::is_repeated(here.line.text, read);
-    let found = outputs::find_outputs(here.line.text, here.table, set, read);
+    let found = set.find_outputs(read);
     let other = read.count != k.shares;
     first_fault(here.stands, repeats, found.unknown, false, other)?;
     let places = found.places;

@@ -3,7 +3,6 @@ use Rattle.std.specs.Prelude.{ℕ, ◌+◌, ◌-◌, ◌≤◌, ◌≡◌, List,
 use Rattle.std.specs.Prelude.{Option, None as none, Some as some}
 use Rattle.rules.specs.declared.types.Operand.{Operand}
 use Rattle.rules.specs.declared.types.Op.{Op}
-use Rattle.grammar.specs.declared.line.NameRef.{NameRef}
 use Rattle.lookup.specs.declared.scope.TermFound.{TermFound}
 use Rattle.lookup.specs.declared.compile.Compiled.{Compiled}
 use Rattle.lookup.specs.declared.compile.Lookup.{Lookup}
@@ -13,17 +12,17 @@ use Rattle.tokens.specs.Token.{◌>>=◌, Name, name, read_name, read_term}
 use Rattle.grammar.specs.Formula.{Formula, Parsed, front, operations, parsed}
 use Rattle.rules.specs.Limits.{most_names, most_statements}
 use Rattle.rules.specs.Scope.{unknown_formula, value_of, compiled}
-use Rattle.lookup.specs.Names.{names_in}
+use Rattle.lookup.specs.Names.{names_in, given_in}
 use Rattle.lookup.specs.Found.{term_found}
 use Rattle.lookup.specs.Coded.{written}
 
--- the names of the set and of the maps that a formula reads
-abbrev pub set_in : List ℕ → List NameRef → Lookup → List Name
-set_in s t w = names_in s t w.names
+-- the names of the set that a formula reads
+abbrev pub set_in : Lookup → List Name
+set_in w = given_in w.set
 
 -- the names of the maps
-abbrev pub maps_in : List ℕ → List NameRef → Lookup → List Name
-maps_in s t w = names_in s t w.maps
+abbrev pub maps_in : Lookup → List Name
+maps_in w = names_in w.set.text.now w.set.table.now w.maps
 
 -- what was looked up
 abbrev pub compiled_of : ℕ → Bool → Operand → ℕ → Compiled
@@ -65,26 +64,25 @@ abbrev pub Room : ℕ → Option Parsed → Type 0
 Room done none = ⊥
 Room done (some p) = done + operations p.0 ≤ most_statements
 
--- the values have places, and f stands in the text
-pub record Looks (s f : List ℕ) (w : Lookup) : Type 0 where
+-- the values have places, and the field stands in the text
+pub record Looks (w : Lookup) : Type 0 where
   pub based : w.base ≤ most_names
-  pub field : f ≡ take (length f) (drop w.from s)
-  pub inside : w.from + length f ≤ length s
+  pub field : w.field.now ≡ take (length w.field.now) (drop w.from w.set.text.now)
+  pub inside : w.from + length w.field.now ≤ length w.set.text.now
 
--- a formula stands at place `at` of f, with room for its operations from entry k on
-abbrev pub Compilable : List ℕ → List ℕ → Lookup → ℕ → ℕ → Type 0
-Compilable s f w at k = Looks s f w × (at ≤ length f) × Room k (parsed (drop at f))
+-- a formula stands at place `at` of the field, with room for its operations from entry k on
+abbrev pub Compilable : Lookup → ℕ → ℕ → Type 0
+Compilable w at k = Looks w × (at ≤ length w.field.now) × Room k (parsed (drop at w.field.now))
 
--- the whole outcome of looking up the formula at place `at` of f, in the sets of the table t
-abbrev pub CompilesAt : (s : List ℕ) (t : List NameRef) (f : List ℕ) (entry exit : List Op)
-    → Lookup → ℕ → ℕ → Compiled → Type 0
-CompilesAt s t f entry exit w at k r =
-    Compiles (set_in s t w) (maps_in s t w) w.base at k f entry exit r (parsed (drop at f))
+-- the whole outcome of looking up the formula at place `at` of the field
+abbrev pub CompilesAt : (entry exit : List Op) → Lookup → ℕ → ℕ → Compiled → Type 0
+CompilesAt entry exit w at k r =
+    Compiles (set_in w) (maps_in w) w.base at k w.field.now entry exit r (parsed (drop at w.field.now))
 
 -- the whole outcome of looking up a map
-abbrev pub MapLookedAt : (s : List ℕ) (t : List NameRef) (f : List ℕ) → Lookup → ℕ → ℕ → Option Compiled → Type 0
-MapLookedAt s t f w at k r = MapLooked (maps_in s t w) f at k r
+abbrev pub MapLookedAt : Lookup → ℕ → ℕ → Option Compiled → Type 0
+MapLookedAt w at k r = MapLooked (maps_in w) w.field.now at k r
 
 -- the whole outcome of looking up an operand
-abbrev pub TermLookedAt : (s : List ℕ) (t : List NameRef) (f : List ℕ) → Lookup → ℕ → ℕ → ℕ → Option Compiled → Type 0
-TermLookedAt s t f w at mark k r = TermLooked (set_in s t w) f at mark k r
+abbrev pub TermLookedAt : Lookup → ℕ → ℕ → ℕ → Option Compiled → Type 0
+TermLookedAt w at mark k r = TermLooked (set_in w) w.field.now at mark k r

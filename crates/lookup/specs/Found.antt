@@ -5,6 +5,7 @@ use Rattle.rules.specs.declared.types.Operand.{Operand}
 use Rattle.rules.specs.declared.types.Operand.TheVariants.{Place, Byte}
 use Rattle.rules.specs.declared.types.Op.{Op}
 use Rattle.lookup.specs.declared.names.Names.{Names}
+use Rattle.lookup.specs.declared.names.Set.{Set}
 use Rattle.lookup.specs.declared.scope.TermFound.{TermFound}
 use Rattle.lookup.specs.declared.scope.FormFound.{FormFound}
 use Rattle.grammar.specs.declared.formula.Operation.{Operation}
@@ -20,27 +21,27 @@ use Rattle.tokens.specs.Ascii.{any}
 use Rattle.grammar.specs.Recorded.{form_in, names_read}
 use Rattle.grammar.specs.declared.outputs.Outputs.{Outputs}
 use Rattle.lookup.specs.declared.outputs.PlacesFound.{PlacesFound}
-use Rattle.lookup.specs.Names.{names_in}
+use Rattle.lookup.specs.Names.{names_in, given_in}
 
 -- a name among the names ms: its place, where it is given
 unfoldable pub name_found : List Name → Name → Option ℕ
 name_found ms x = cond (given x ms) (some (place_of x ms)) none
 
--- whether the name n is given in the set ns of the table t
-abbrev pub GivenIs : List ℕ → List NameRef → Names → NameRef → Bool → Type 0
-GivenIs s t ns n r = r ≡ given (name_in s n) (names_in s t ns)
+-- whether the name n is given in the set l
+abbrev pub GivenIs : Set → NameRef → Bool → Type 0
+GivenIs l n r = r ≡ given (name_in l.text.now n) (given_in l)
 
--- the name n looked up in the set ns of the table t
-abbrev pub NameIs : List ℕ → List NameRef → Names → NameRef → Option ℕ → Type 0
-NameIs s t ns n r = r ≡ name_found (names_in s t ns) (name_in s n)
+-- the name n looked up in the set l
+abbrev pub NameIs : Set → NameRef → Option ℕ → Type 0
+NameIs l n r = r ≡ name_found (given_in l) (name_in l.text.now n)
 
 -- an operand among the names ms
 unfoldable pub term_found : List Name → Term → TermFound
 term_found ms x = record { unknown = unknown_term ms x; operand = operand_in ms x }
 
--- an operand looked up in the set ns of the table t
-abbrev pub TermIs : List ℕ → List NameRef → Names → TermRef → TermFound → Type 0
-TermIs s t ns a r = r ≡ term_found (names_in s t ns) (term_in s a)
+-- an operand looked up in the set l
+abbrev pub TermIs : Set → TermRef → TermFound → Type 0
+TermIs l a r = r ≡ term_found (given_in l) (term_in l.text.now a)
 
 -- the operation on two operands, by places
 abbrev pub joined : Binary → Operand → Operand → Op
@@ -60,10 +61,10 @@ unfoldable pub pair_found : Operation → TermFound → TermFound → FormFound
 pair_found o x y =
     record { unknown = x.unknown || y.unknown; op = operated o x.operand y.operand; drawn = 0 }
 
--- an operation on a, looked up in the set ls of the table t, and on b, looked up in its set ns
-abbrev pub PairIs : List ℕ → List NameRef → Names → Names → Operation → TermRef → TermRef → FormFound → Type 0
-PairIs s t ls ns o a b r =
-    r ≡ pair_found o (term_found (names_in s t ls) (term_in s a)) (term_found (names_in s t ns) (term_in s b))
+-- an operation on a, looked up in the set m, and on b, looked up in the set l
+abbrev pub PairIs : Set → Set → Operation → TermRef → TermRef → FormFound → Type 0
+PairIs m l o a b r =
+    r ≡ pair_found o (term_found (given_in m) (term_in m.text.now a)) (term_found (given_in l) (term_in l.text.now b))
 
 -- a form among the names of its set and of the maps: whether it reads what is not given, what it is by places, and
 -- the variables that it draws; v is the next variable
@@ -71,11 +72,12 @@ unfoldable pub form_found : List Name → List Name → ℕ → Form → FormFou
 form_found ms maps v y =
     record { unknown = unknown_form ms maps y; op = op_in ms maps v y; drawn = drawn y }
 
--- the whole outcome of looking a form up in the sets ns and maps of the table t
-abbrev pub FormIs : List ℕ → List NameRef → Names → Names → ℕ → FormRead → FormFound → Type 0
-FormIs s t ns maps v f r = r ≡ form_found (names_in s t ns) (names_in s t maps) v (form_in s f)
+-- the whole outcome of looking a form up in the set l and in the maps of its table
+abbrev pub FormIs : Set → Names → ℕ → FormRead → FormFound → Type 0
+FormIs l maps v f r =
+    r ≡ form_found (given_in l) (names_in l.text.now l.table.now maps) v (form_in l.text.now f)
 
--- the whole outcome of looking the names of an output line up in the set ns of the table t
-pub record PlacesAre (s : List ℕ) (t : List NameRef) (ns : Names) (o : Outputs) (r : PlacesFound) : Type 0 where
-  pub unknown : r.unknown ≡ any (missing (names_in s t ns)) (names_read s o)
-  pub places : take o.count r.places ≡ map (λ x. place_of x (names_in s t ns)) (names_read s o)
+-- the whole outcome of looking the names of an output line up in the set l
+pub record PlacesAre (l : Set) (o : Outputs) (r : PlacesFound) : Type 0 where
+  pub unknown : r.unknown ≡ any (missing (given_in l)) (names_read l.text.now o)
+  pub places : take o.count r.places ≡ map (λ x. place_of x (given_in l)) (names_read l.text.now o)

@@ -4,6 +4,7 @@ use Rattle.tokens.specs.Token.{Name}
 use Rattle.grammar.specs.Line.{name_in}
 use Rattle.grammar.specs.declared.line.NameRef.{NameRef}
 use Rattle.lookup.specs.declared.names.Names.{Names}
+use Rattle.lookup.specs.declared.names.Set.{Set}
 
 -- what stands past the end of a table
 abbrev pub nowhere : NameRef
@@ -21,6 +22,10 @@ listed s t from (suc n) = name_in s (entry t from) ∷ listed s t (from + 1) n
 -- the names of a set
 unfoldable pub names_in : List ℕ → List NameRef → Names → List Name
 names_in s t ns = listed s t ns.from ns.count
+
+-- the names of a set, by its own text and table
+abbrev pub given_in : Set → List Name
+given_in l = names_in l.text.now l.table.now l.names
 
 -- a table with the name x as entry `at`
 abbrev pub put : List NameRef → ℕ → NameRef → List NameRef

@@ -4,9 +4,8 @@ ghost use Rattle.lookup.specs.Compiled.{Looks, Compilable};
 ghost use Rattle.lookup.specs.Compiled.{compiled_of, CompilesAt, MapLookedAt};
 ghost use Rattle.lookup.specs.Compiled.{TermLookedAt};
 
-use crate::names::Names;
+use crate::names::{Names, Set};
 use crate::scope;
-use crate::table::Table;
 use grammar::formula::Operation;
 use grammar::line::TermRef;
 use grammar::{formula, line};
@@ -17,13 +16,11 @@ use tokens::bytes;
 // The operations of a formula, in the order of computing.
 pub type Ops = [Op; MOST_STATEMENTS];
 
-// The text and its table of names, the names that a formula reads, its field and where it stands in
-// the text, and the place of its first operation's value.
+// The set of names that a formula reads, the maps in its table, the formula's field and where it
+// stands in the text, and the place of its first operation's value.
 #[derive(Clone, Copy)]
 pub struct Lookup<'a> {
-    pub text: &'a [u8],
-    pub table: &'a Table,
-    pub names: Names,
+    pub set: Set<'a>,
     pub maps: Names,
     pub field: &'a [u8],
     pub from: usize,
@@ -42,9 +39,8 @@ pub struct Compiled {
 
 // Looks up the formula at place `at` of the field f, and writes its operations.
 pub fn compile<'a>(w: Lookup<'a>, at: usize, done: usize, out: &mut Ops) -> Compiled
-    requires { Compilable w.text.now w.field.now w at done }
-    ensures { CompilesAt w.entry.text.now w.entry.table.now w.entry.field.now
-        out.old out.new w.entry at done result }
+    requires { Compilable w at done }
+    ensures { CompilesAt out.old out.new w.entry at done result }
 {
     let mark = bytes::find_mark(w.field, at);
     let o = formula::operation_at(w.field, at, mark);
@@ -81,13 +77,17 @@ pub(crate) fn made(end: usize, unknown: bool, operand: Operand, done: usize) -> 
 
 // Looks up the map whose name stands at place `at` of the field, up to the first mark.
 pub(crate) fn find_map<'a>(w: Lookup<'a>, at: usize, done: usize) -> Option<Compiled>
-    requires { (Looks w.text.now w.field.now w) × (at ≤ length w.field.now) }
-    ensures { MapLookedAt w.entry.text.now w.entry.table.now w.entry.field.now
-        w.entry at done result }
+    requires { (Looks w) × (at ≤ length w.field.now) }
+    ensures { MapLookedAt w.entry at done result }
 {
     let mark = bytes::find_mark(w.field, at);
-    let g = line::name_at(w.text, w.from + at, mark - at)?;
-    let x = scope::find_term(w.text, w.table, w.maps, TermRef::Name(g));
+    let g = line::name_at(w.set.text, w.from + at, mark - at)?;
+    let maps = Set {
+        text: w.set.text,
+        table: w.set.table,
+        names: w.maps,
+    };
+    let x = maps.find_term(TermRef::Name(g));
     Some(made(mark, x.unknown, x.operand, done))
 }
 
@@ -98,11 +98,10 @@ pub(crate) fn find_operand<'a>(
     mark: usize,
     done: usize,
 ) -> Option<Compiled>
-    requires { (Looks w.text.now w.field.now w) × (at ≤ mark) × (mark ≤ length w.field.now) }
-    ensures { TermLookedAt w.entry.text.now w.entry.table.now w.entry.field.now
-        w.entry at mark done result }
+    requires { (Looks w) × (at ≤ mark) × (mark ≤ length w.field.now) }
+    ensures { TermLookedAt w.entry at mark done result }
 {
-    let a = line::term_at(w.text, w.from + at, mark - at)?;
-    let x = scope::find_term(w.text, w.table, w.names, a);
+    let a = line::term_at(w.set.text, w.from + at, mark - at)?;
+    let x = w.set.find_term(a);
     Some(made(mark, x.unknown, x.operand, done))
 }

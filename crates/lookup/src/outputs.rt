@@ -4,9 +4,8 @@ ghost use Rattle.grammar.specs.Recorded.{names_read};
 ghost use Rattle.rules.specs.Scope.{repeated};
 ghost use Rattle.lookup.specs.Found.{PlacesAre};
 
-use crate::names::Names;
-use crate::table::Table;
-use crate::{scope, table};
+use crate::names::Set;
+use crate::table;
 use grammar::outputs::Outputs;
 use tokens::limits::MOST_SHARES;
 
@@ -31,17 +30,19 @@ pub struct PlacesFound {
     pub places: [usize; MOST_SHARES],
 }
 
-// Looks up the names of an output line.
-pub fn find_outputs(s: &[u8], t: &Table, set: Names, o: Outputs) -> PlacesFound
-    ensures { PlacesAre s.now t.now set o result }
-{
-    let items = o.items;
-    let mut places = [0usize; MOST_SHARES];
-    let mut unknown = false;
-    for i in 0..o.count {
-        let place = scope::find_name(s, t, set, items[i]);
-        places[i] = place.unwrap_or(set.count);
-        unknown |= place.is_none();
+impl<'a> Set<'a> {
+    // Looks up the names of an output line.
+    pub fn find_outputs(self, o: Outputs) -> PlacesFound
+        ensures { PlacesAre self.entry o result }
+    {
+        let items = o.items;
+        let mut places = [0usize; MOST_SHARES];
+        let mut unknown = false;
+        for i in 0..o.count {
+            let place = self.find(items[i]);
+            places[i] = place.unwrap_or(self.names.count);
+            unknown |= place.is_none();
+        }
+        PlacesFound { unknown, places }
     }
-    PlacesFound { unknown, places }
 }

@@ -1,9 +1,11 @@
 // What a record reads and gives, looked up in its set.
-ghost use Rattle.std.specs.Prelude.{◌≡◌};
+ghost use Rattle.std.specs.Prelude.{◌≡◌, ℕ, List, map};
+ghost use Rattle.grammar.specs.Line.{name_in};
+ghost use Rattle.lookup.specs.Names.{names_in};
 ghost use Rattle.lookup.specs.Found.{GivenIs, NameIs, TermIs, PairIs, FormIs};
 ghost use Rattle.lookup.specs.Found.{joined, operated};
 
-use crate::names::Names;
+use crate::names::{Names, Set};
 use crate::table;
 use crate::table::Table;
 use grammar::formula::Operation;
@@ -11,7 +13,7 @@ use grammar::line::{NameRef, TermRef};
 use grammar::record::{Binary, FormRead};
 use rules::types::{Op, Operand};
 
-// An operand by its value's place, and whether its name is not given: the clause of `find_term`
+// An operand by its value's place, and whether its name is not given: the clause of `find_form`
 // says the operand also where it is not, so the flag stands beside it.
 #[derive(Clone, Copy)]
 pub struct TermFound {
@@ -28,54 +30,85 @@ pub struct FormFound {
     pub drawn: usize,
 }
 
-// The name is given in the set.
-pub fn is_given(s: &[u8], t: &Table, set: Names, n: NameRef) -> bool
-    ensures { GivenIs s.now t.now set n result }
-{
-    find_name(s, t, set, n).is_some()
+impl Names {
+    // The entries of the set, in its table.
+    pub(crate) fn entries(self, t: &Table) -> &[NameRef]
+        ensures { (s : List ℕ) → map (name_in s) result.now ≡ names_in s t.now self }
+    {
+        &t[self.from..self.from + self.count]
+    }
 }
 
-// The place of a name in a set, where it is given there.
-pub fn find_name(s: &[u8], t: &Table, set: Names, n: NameRef) -> Option<usize>
-    ensures { NameIs s.now t.now set n result }
-{
-    table::place(s, &t[set.from..set.from + set.count], n)
-}
+impl<'a> Set<'a> {
+    // The name is given in the set.
+    pub fn is_given(self, n: NameRef) -> bool
+        ensures { GivenIs self.entry n result }
+    {
+        self.find(n).is_some()
+    }
 
-// Looks up an operand.
-pub(crate) fn find_term(s: &[u8], t: &Table, set: Names, a: TermRef) -> TermFound
-    ensures { TermIs s.now t.now set a result }
-{
-    match a {
-        TermRef::Name(n) => {
-            let place = find_name(s, t, set, n);
-            TermFound {
-                unknown: place.is_none(),
-                operand: Operand::Place(place.unwrap_or(set.count)),
+    // The place of a name in the set, where it is given there.
+    pub fn find(self, n: NameRef) -> Option<usize>
+        ensures { NameIs self.entry n result }
+    {
+        table::place(self.text, self.names.entries(self.table), n)
+    }
+
+    // Looks up an operand.
+    pub(crate) fn find_term(self, a: TermRef) -> TermFound
+        ensures { TermIs self.entry a result }
+    {
+        match a {
+            TermRef::Name(n) => {
+                let place = self.find(n);
+                TermFound {
+                    unknown: place.is_none(),
+                    operand: Operand::Place(place.unwrap_or(self.names.count)),
+                }
             }
+            TermRef::Byte(v) => TermFound {
+                unknown: false,
+                operand: Operand::Byte(v),
+            },
         }
-        TermRef::Byte(v) => TermFound {
-            unknown: false,
-            operand: Operand::Byte(v),
-        },
+    }
+
+    // Looks up what a statement reads, its maps in a set of their own; v is the next variable.
+    pub fn find_form(self, maps: Names, v: usize, f: FormRead) -> FormFound
+        ensures { FormIs self.entry maps v f result }
+    {
+        let others = Set {
+            text: self.text,
+            table: self.table,
+            names: maps,
+        };
+        match f {
+            FormRead::Set(a) => {
+                let x = self.find_term(a);
+                FormFound {
+                    unknown: x.unknown,
+                    op: Op::Set(x.operand),
+                    drawn: 0,
+                }
+            }
+            FormRead::Two(g, a, b) => find_pair(self, self, Operation::Two(g), a, b),
+            FormRead::App(g, a) => find_pair(others, self, Operation::Image, TermRef::Name(g), a),
+            FormRead::Rand => FormFound {
+                unknown: false,
+                op: Op::Rand(v),
+                drawn: 1,
+            },
+        }
     }
 }
 
 // Looks up an operation on two operands, the first in a set of its own.
 #[tactic(auto, unfolding(crate::specs::Found::pair_found))]
-pub(crate) fn find_pair(
-    s: &[u8],
-    t: &Table,
-    first: Names,
-    set: Names,
-    o: Operation,
-    a: TermRef,
-    b: TermRef,
-) -> FormFound
-    ensures { PairIs s.now t.now first set o a b result }
+pub(crate) fn find_pair(first: Set, set: Set, o: Operation, a: TermRef, b: TermRef) -> FormFound
+    ensures { PairIs first.entry set.entry o a b result }
 {
-    let x = find_term(s, t, first, a);
-    let y = find_term(s, t, set, b);
+    let x = first.find_term(a);
+    let y = set.find_term(b);
     FormFound {
         unknown: x.unknown | y.unknown,
         op: operate(o, x.operand, y.operand),
@@ -83,30 +116,8 @@ pub(crate) fn find_pair(
     }
 }
 
-// Looks up what a statement reads; v is the next variable.
-pub fn find_form(s: &[u8], t: &Table, set: Names, maps: Names, v: usize, f: FormRead) -> FormFound
-    ensures { FormIs s.now t.now set maps v f result }
-{
-    match f {
-        FormRead::Set(a) => {
-            let x = find_term(s, t, set, a);
-            FormFound {
-                unknown: x.unknown,
-                op: Op::Set(x.operand),
-                drawn: 0,
-            }
-        }
-        FormRead::Two(g, a, b) => find_pair(s, t, set, set, Operation::Two(g), a, b),
-        FormRead::App(g, a) => find_pair(s, t, maps, set, Operation::Image, TermRef::Name(g), a),
-        FormRead::Rand => FormFound {
-            unknown: false,
-            op: Op::Rand(v),
-            drawn: 1,
-        },
-    }
-}
-
-// An operation on two values, or on a map and a value.
+// An operation on two values, or on a map and a value; what cannot be is a `set`, as the definition
+// `operated` has it.
 pub(crate) fn operate(o: Operation, x: Operand, y: Operand) -> Op
     ensures { result ≡ operated o x y }
 {

@@ -7,7 +7,8 @@ use arrayvec::ArrayString;
 use itoa::Buffer;
 use verdict::report::{Report, Verdict};
 
-// A verdict's word.
+// A verdict's word. A function and no Display, which would stand in crate verdict and be written by
+// `write!`, whose bytes are promised only where it answers Ok.
 #[tactic(auto, unfolding(verdict::specs::Print::word, tokens::specs::Ascii::ascii))]
 fn word(verdict: Verdict) -> &'static str
     ensures value { result.now ≡ word verdict }

@@ -77,8 +77,8 @@ fn square_terms(m: u8, src: &mut [u8], k: usize, t: &mut [u8])
     ensures { Squared m src.old src.new k (length t.old) }
 {
     let w = t.len();
-    // the terms before j are squared; by index, since of chunks that a walk lends out to be written
-    // std tells their lengths alone
+    // the terms before j are squared; by index, since of chunks that are lent out to be written no
+    // contract says what the buffer holds afterwards
     for j in 0..k {
         let term = &mut src[j * w..j * w + w];
         term_product(m, term, term, t);

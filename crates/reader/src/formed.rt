@@ -11,7 +11,7 @@ use grammar::{formula, lists};
 use tokens::limits::MOST_DEPTH;
 
 // What the record of line l leaves in its line can be read.
-pub fn has_fields(l: TextLine, r: Rec) -> bool
+pub(crate) fn has_fields(l: TextLine, r: Rec) -> bool
     ensures { result ≡ has_fields (pieces_of l.entry) r }
 {
     match r {
@@ -23,7 +23,7 @@ pub fn has_fields(l: TextLine, r: Rec) -> bool
 }
 
 // The record of line l nests above 8.
-pub fn nests(l: TextLine, r: Rec) -> bool
+pub(crate) fn nests(l: TextLine, r: Rec) -> bool
     ensures { result ≡ nests_in (pieces_of l.entry) r }
 {
     match r {

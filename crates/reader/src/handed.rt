@@ -1,7 +1,9 @@
 // What is handed out at a place of the text, and the place behind it: for any text and any place.
-// A place is two numbers here, as in the theorems (`record_ahead`, specs/Reader.antt): any two, also
+// A place is two numbers here, as in the theorems (`record_ahead`, specs/Reader.antt): any, also
 // past the end; a Cursor is what they are brought to.
-ghost use Rattle.std.specs.Prelude.{◌≡◌, ◌<◌, length};
+ghost use Rattle.std.specs.Prelude.{◌≡◌, ◌<◌, cond, length};
+ghost use Rattle.tokens.specs.Ascii.{all, allowed};
+ghost use Rattle.tokens.specs.Refusal.{number};
 ghost use Rattle.reader.specs.Reader as reader;
 ghost use Rattle.reader.specs.Handed.{RecordIs, LineIs, LastIs, HandedIs};
 
@@ -81,17 +83,23 @@ pub fn hand_last(s: &[u8], l: Line, n: usize) -> Handed
     requires { n < length s.now }
     ensures { LastIs s.now l n result }
 {
-    let refusal = if bytes::all_allowed(split::part(s, l.from, l.len)) {
-        Refusal::NoLineFeed
-    } else {
-        Refusal::StrangeByte
-    };
     Handed {
-        record: Err(refusal),
+        record: Err(last_refusal(split::part(s, l.from, l.len))),
         behind: Cursor {
             at: s.len(),
             line: n + 1,
         },
+    }
+}
+
+// Why a last line is refused that lacks its line feed.
+pub fn last_refusal(line: &[u8]) -> Refusal
+    ensures { number result ≡ cond (all allowed line.now) 4 3 }
+{
+    if bytes::all_allowed(line) {
+        Refusal::NoLineFeed
+    } else {
+        Refusal::StrangeByte
     }
 }
 

@@ -1,4 +1,5 @@
-// The difference at the output line: its raw size, and its terms.
+// The difference at the output line: its raw size, and its terms. The parameters stay apart: the
+// buffers are lent again, to be read and to be written.
 ghost use Rattle.std.specs.Prelude.{◌++◌, ◌+◌, ◌≤◌, length};
 ghost use Rattle.field.specs.Laws.{gf};
 ghost use Rattle.poly.specs.Poly.{normal};

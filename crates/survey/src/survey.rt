@@ -6,6 +6,7 @@ ghost use Rattle.survey.specs.Survey.{origin_scope, masked_scope, Lent, Surveyed
 use crate::table::list_maps;
 use crate::walk::walk_block;
 use text::accepted::Accepted;
+use text::routine::Routine;
 use values::shelf::Shelf;
 use values::source::Scope;
 use values::view::View;
@@ -15,12 +16,12 @@ use verdict::MODULUS;
 pub const MOST_TERMS: usize = 3840;
 
 // The origin block begins with the inputs, each the sum of its shares; it draws nothing.
-pub fn origin_scope(r: Accepted) -> Scope
-    ensures { result ≡ origin_scope r.routine }
+pub fn origin_scope(r: Routine) -> Scope
+    ensures { result ≡ origin_scope r }
 {
     Scope {
-        begins: r.routine.inputs,
-        width: r.routine.shares,
+        begins: r.inputs,
+        width: r.shares,
         base: 0,
         drawn: 0,
     }
@@ -47,7 +48,7 @@ pub fn survey(r: Accepted, left: &mut [u8], right: &mut [u8]) -> Result<Shelf, u
     let routine = r.routine;
     let t = list_maps(MODULUS, &routine.maps[..routine.mapped]);
     let w = routine.variables + 1;
-    let scope = origin_scope(r);
+    let scope = origin_scope(routine);
     let shelf = Shelf::empty();
     let d = walk_block(
         MODULUS,

@@ -22,7 +22,7 @@ use reader::{cursor, handed};
 use rules::limits::{MOST_BYTES, MOST_MAPS, MOST_STATEMENTS};
 use rules::types::{AffineMap, Op, Statement};
 use tokens::refusal::Refusal;
-use tokens::{bytes, split};
+use tokens::split;
 
 // Why a text is refused, and at which line.
 #[derive(Clone, Copy, PartialEq, Eq, Debug)]
@@ -72,13 +72,8 @@ pub(crate) fn unended(s: &[u8], l: Line, n: usize) -> Result<Routine, Refused>
     requires { n ≤ most_bytes }
     ensures { UnendedIs s.now l n result }
 {
-    let refusal = if bytes::all_allowed(split::part(s, l.from, l.len)) {
-        Refusal::NoLineFeed
-    } else {
-        Refusal::StrangeByte
-    };
     Err(Refused {
-        refusal,
+        refusal: handed::last_refusal(split::part(s, l.from, l.len)),
         line: n + 1,
     })
 }

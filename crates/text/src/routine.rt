@@ -6,8 +6,9 @@ use rules::limits::{MOST_MAPS, MOST_STATEMENTS};
 use rules::types::{AffineMap, Op, Operand, Statement};
 use tokens::limits::{COLUMNS, MOST_SHARES};
 
-// The statements of the origin block stand first, those of the masked block behind them. There is
-// no heap, so the arrays have room for the most, and their lengths stand beside them.
+// The statements of the origin block stand first, those of the masked block behind them. The arrays
+// have room for the most, with no heap, and their lengths stand beside them: a routine is handed on
+// by value, which the kit's ArrayVec is not, and the definitions (`routine_of`) speak of both.
 #[derive(Clone, Copy)]
 pub struct Routine {
     pub shares: usize,

@@ -2,8 +2,8 @@
 ghost use Rattle.std.specs.Prelude.{◌≡◌};
 ghost use Rattle.tokens.specs.Word.{word_of};
 
-// The word that a record begins with; Unknown stands for every other: the definitions and theorems
-// of crate rules treat it as a word like any other.
+// The word that a record begins with; Unknown stands for every other: the definitions `may_have`
+// and `record_for` treat it as a word like any other.
 #[derive(Clone, Copy, PartialEq, Eq, Debug)]
 pub enum Word {
     Shares,

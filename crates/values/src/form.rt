@@ -1,5 +1,6 @@
 // A value formed in the first work buffer, from term `top` on; `left` holds the values so far,
-// `right` is lent for operands. Each answers how many terms the value has.
+// `right` is lent for operands. Each answers how many terms it has. The parameters stay apart:
+// `left` and `right` are lent again by each, and no two take the same of the others.
 ghost use Rattle.std.specs.Prelude.{[], ◌+◌, ◌*◌, ◌-◌, ◌<◌, get_or};
 ghost use Rattle.field.specs.Field.{Modulus};
 ghost use Rattle.field.specs.Laws.{gf};

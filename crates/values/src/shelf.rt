@@ -10,7 +10,8 @@ pub struct Slot {
     pub size: u16,
 }
 
-// The places of the values of the first `count` statements; all stand below term `top`.
+// The places of the values of the first `count` statements; all stand below term `top`. It is
+// handed on by value, which the kit's ArrayVec is not, so the count stands beside the array.
 #[derive(Clone, Copy)]
 pub struct Shelf {
     pub slots: [Slot; 256],

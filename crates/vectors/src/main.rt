@@ -10,6 +10,7 @@ mod show;
 mod stored;
 mod tables;
 
+// Prints the tables, then what comes of each stored text.
 fn main(rt: HostRuntime) {
     let mut input = rt.stdin();
     let mut output = rt.stdout();

@@ -7,9 +7,10 @@ use verdict::run::run;
 // The low byte of the modulus.
 const MODULUS: u8 = 0x1b;
 
-// The map of FIPS 197: its constant and its columns.
+// The constant of the map of FIPS 197.
 const FIPS_CONSTANT: u8 = 0x63;
 
+// The columns of the map of FIPS 197.
 const FIPS_COLUMNS: [u8; 8] = [0x1f, 0x3e, 0x7c, 0xf8, 0xf1, 0xe3, 0xc7, 0x8f];
 
 // The columns of squaring.

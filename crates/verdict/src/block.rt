@@ -36,7 +36,8 @@ pub(crate) fn fill(m: u8, r: Routine, from: usize, to: usize, xs: &[u8], vs: &mu
     ensures { Filled m r from to n xs.now vs.old vs.new }
 {
     let maps = &r.maps[..r.mapped];
-    // the values of the statements before s stand at the front, `at` of them
+    // the values of the statements before s stand at the front, `at` of them; a zip with the places
+    // from n on would be two walks where the invariant speaks of one
     let mut at = n;
     for s in &r.statements[from..to] {
         vs[at] = given(m, maps, xs, &vs[..at], s.op);
@@ -67,7 +68,8 @@ fn operand(m: u8, vs: &[u8], a: Operand) -> u8
     }
 }
 
-// The value at a place; past the last it is 0.
+// The value at a place; past the last it is 0. m is read by the clause alone, which speaks of bytes
+// over a modulus.
 pub(crate) fn value_at(m: u8, vs: &[u8], i: usize) -> u8
     ensures { result ≡ value_at (bytes m) vs.now i }
 {

@@ -20,7 +20,7 @@ const DEFAULT_START: u32 = 1;
 // What is added for each byte.
 const STEP: u32 = 0x9e3779b9;
 
-// The bytes of one trial, and the number after them.
+// The bytes of one trial, as many as the routine has variables, and the number after them.
 #[derive(Clone, Copy)]
 pub struct Trial {
     pub bytes: [u8; MOST_VARIABLES],

@@ -160,21 +160,24 @@ shallow-count s f S = omega (arith, S.count, let_few S.formula, shallow-few S.fo
 pub shallow_fits : (s : List ℕ) (f : Letting) → Shallow s f → LetRoom (read_formula (field_of s f))
 shallow_fits s f S = subst LetRoom (sym S.read) (omega (arith, shallow-few S.formula S.shallow))
 
+-- the field is in its place, and the values have places
+pub let_looks : (w : Lookup) (t : List NameRef) (k : Known) (f : Letting) (n : Names)
+    → names_in w.set.text.now t n ≡ block_names w.set.text.now t k → w.field.now ≡ field_of w.set.text.now f
+    → w.from ≡ f.at → w.base ≡ n.count → Sound k → f.at + f.len ≤ length w.set.text.now → Looks w
+let_looks w t k f n e q a b K h =
+    let s = w.set.text.now in
+    let size : length w.field.now ≡ f.len = ap (λ (l : List ℕ). length l) q
+    ∙ length-take-le f.len (drop f.at s) (omega (arith, length-drop f.at s)) in
+    let few = block-few s t k K (eqb (stage_of k.stage) in_masked) in
+    let all = names-count s t n ∙ ap (λ (ms : List Name). length ms) e in
+    record {
+      based = omega (arith, few, all, b);
+      field = q ∙ (λ i. take (sym size i) (drop (sym a i) s));
+      inside = omega (arith, size, h, a);
+    }
+
 module _ (s : List ℕ) (t : List NameRef) (k : Known) (f : Letting) (n : Names)
     (e : names_in s t n ≡ block_names s t k) (p : List ℕ) (q : p ≡ field_of s f) where
-  -- the field is in its place, and the values have places
-  pub let_looks : (w : Lookup) → w.from ≡ f.at → w.base ≡ n.count → Sound k → f.at + f.len ≤ length s → Looks s p w
-  let_looks w a b K h =
-      let size : length p ≡ f.len = ap (λ (l : List ℕ). length l) q
-      ∙ length-take-le f.len (drop f.at s) (omega (arith, length-drop f.at s)) in
-      let few = block-few s t k K (eqb (stage_of k.stage) in_masked) in
-      let all = names-count s t n ∙ ap (λ (ms : List Name). length ms) e in
-      record {
-        based = omega (arith, few, all, b);
-        field = q ∙ (λ i. take (sym size i) (drop (sym a i) s));
-        inside = omega (arith, size, h, a);
-      }
-
   -- there is room for the operations
   pub let_room : LetRoom (read_formula (field_of s f)) → Room 0 (parsed p)
   let_room h = field_room p (subst (λ (l : List ℕ). LetRoom (read_formula l)) (sym q) h)

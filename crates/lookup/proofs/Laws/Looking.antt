@@ -18,22 +18,24 @@ part-front (suc a) m zero t h = absurd (omega arith)
 part-front (suc a) m (suc n) [] h = refl
 part-front (suc a) m (suc n) (x ∷ t) h = part-front a m n t (omega arith)
 
-part-here : (s f : List ℕ) (w : Lookup) → Looks s f w → (at len : ℕ) → at + len ≤ length f
-    → take len (drop (w.from + at) s) ≡ take len (drop at f)
-part-here s f w L at len h =
-    ap (take len) (sym (drop-drop at w.from s))
-    ∙ sym (part-front at len (length f) (drop w.from s) h)
+part-here : (w : Lookup) → Looks w → (at len : ℕ) → at + len ≤ length w.field.now
+    → take len (drop (w.from + at) w.set.text.now) ≡ take len (drop at w.field.now)
+part-here w L at len h =
+    ap (take len) (sym (drop-drop at w.from w.set.text.now))
+    ∙ sym (part-front at len (length w.field.now) (drop w.from w.set.text.now) h)
     ∙ ap (λ (u : List ℕ). take len (drop at u)) (sym L.field)
 
 -- the operand from a place of the field to the mark
-pub term-looked : (s f : List ℕ) (w : Lookup) (at mark : ℕ) → Looks s f w → at ≤ mark → mark ≤ length f
-    → take (mark - at) (drop (w.from + at) s) ≡ take (mark - at) (drop at f)
-term-looked s f w at mark L h m = part-here s f w L at (mark - at) (omega arith)
+pub term-looked : (w : Lookup) (at mark : ℕ) → Looks w → at ≤ mark → mark ≤ length w.field.now
+    → take (mark - at) (drop (w.from + at) w.set.text.now) ≡ take (mark - at) (drop at w.field.now)
+term-looked w at mark L h m = part-here w L at (mark - at) (omega arith)
 
 -- the name of a map from a place of the field to the first mark
-pub map-looked : (s f : List ℕ) (w : Lookup) (at mark : ℕ) → Looks s f w → at ≤ length f
-    → mark ≡ at + until is_mark (drop at f) → take (mark - at) (drop (w.from + at) s) ≡ front (drop at f)
-map-looked s f w at mark L h e =
+pub map-looked : (w : Lookup) (at mark : ℕ) → Looks w → at ≤ length w.field.now
+    → mark ≡ at + until is_mark (drop at w.field.now)
+    → take (mark - at) (drop (w.from + at) w.set.text.now) ≡ front (drop at w.field.now)
+map-looked w at mark L h e =
+    let f = w.field.now in
     let inside : mark ≤ length f = omega (arith, until_le is_mark (drop at f), length-drop at f) in
     let long : mark - at ≡ until is_mark (drop at f) = omega arith in
-    part-here s f w L at (mark - at) (omega arith) ∙ ap (λ (i : ℕ). take i (drop at f)) long
+    part-here w L at (mark - at) (omega arith) ∙ ap (λ (i : ℕ). take i (drop at f)) long

@@ -29,13 +29,13 @@ returns-in_err-first_fault c =
     λ codes.
     let s = c.args.here.line.text.now in
     let t = c.args.here.table.now in
-    let set = c.block_names-set in
+    let set = c.block_names in
     let F = c.in_err-first_fault in
     let q : c.from_residual.result ≡ Err F.field-0.0 = search rules in
     took_is c.args.here q
     (form-fault c.args.here c.args.x c.args.f c.find_form-form.result
-    (names_in s t set.result) (set.ensures s t) c.find_form-form.ensures
-    c.is_given-given.ensures c.is_crowded-many.ensures F.ensures)
+    (names_in s t set.result) (set.ensures s t) (rw c.set-set.ensures at c.find_form-form.ensures)
+    (rw c.set-set.ensures at c.is_given-given.ensures) c.is_crowded-many.ensures F.ensures)
 
 pub invariant_of-result : goal.invariant_of-result
 invariant_of-result c =
@@ -52,12 +52,12 @@ returns c =
     λ codes.
     let s = c.args.here.line.text.now in
     let t = c.args.here.table.now in
-    let set = c.block_names-set in
+    let set = c.block_names in
     let form = c.find_form-form in
     let F = c.in_ok-first_fault.ensures in
     let free = no_faults _ _ _ _ _ F refl in
     let fit = room c.args.here.held.known _ (sym c.is_crowded-many.ensures ∙ free.3) in
     form-grown c.args.here c.args.x c.args.f form.result
-    (names_in s t set.result) (set.ensures s t) form.ensures
-    c.is_given-given.ensures c.is_crowded-many.ensures F fit (c.args.here.low free.0)
+    (names_in s t set.result) (set.ensures s t) (rw c.set-set.ensures at form.ensures)
+    (rw c.set-set.ensures at c.is_given-given.ensures) c.is_crowded-many.ensures F fit (c.args.here.low free.0)
     c.with_statements-next.ensures

@@ -45,7 +45,7 @@ returns-in_err-first_fault c =
     took_is c.args.here q
     (took_fault c.args.here (input (name_in s c.args.x)) refl
     (λ y z. record {
-      repeats = c.is_given-given.ensures;
+      repeats = rw c.set-set.ensures at c.is_given-given.ensures;
       unknown = refl;
       exceeds = refl;
       miscounts = refl;
@@ -67,7 +67,7 @@ returns c =
     let to = c.with_input.ensures in
     took_grown c.args.here (input (name_in s m)) refl
     (λ y z. record {
-      repeats = c.is_given-given.ensures;
+      repeats = rw c.set-set.ensures at c.is_given-given.ensures;
       unknown = refl;
       exceeds = refl;
       miscounts = refl;

@@ -49,7 +49,7 @@ returns-in_err-first_fault c =
     took_is c.args.here q
     (took_fault c.args.here (map x c.args.constant bytes) (ap (map_in x c.args.constant) here)
     (λ y z. record {
-      repeats = c.is_given-given.ensures;
+      repeats = rw c.set-set.ensures at c.is_given-given.ensures;
       unknown = refl;
       exceeds = ap (λ (i : ℕ). ltb most_maps (i + 1)) (sym (maps-length s (kept t k y) c.args.here.held.sound z));
       miscounts = refl;
@@ -85,7 +85,7 @@ returns c =
     let few : k.mapped < most_maps = omega (arith, ltb-false most_maps (k.mapped + 1) free.3) in
     took_grown c.args.here (map x c.args.constant bytes) (ap (map_in x c.args.constant) here)
     (λ y z. record {
-      repeats = c.is_given-given.ensures;
+      repeats = rw c.set-set.ensures at c.is_given-given.ensures;
       unknown = refl;
       exceeds = ap (λ (i : ℕ). ltb most_maps (i + 1)) (sym (maps-length s (kept t k y) c.args.here.held.sound z));
       miscounts = refl;

@@ -27,13 +27,13 @@ returns-in_err-first_fault c =
     let k = c.args.here.held.known in
     let s = c.args.here.line.text.now in
     let t = c.args.here.table.now in
-    let set = c.block_names-set in
+    let set = c.block_names in
     let W = c.write_let-unknown in
     let F = c.in_err-first_fault in
     let q : c.from_residual.result ≡ Err F.field-0.0 = search rules in (
       took_is c.args.here q
           (let_fault c.args.here c.args.x c.args.f c.requires.0 c.requires.1 W.result _ _
-          W.ensures (c.is_given-given.ensures
+          W.ensures ((rw c.set-set.ensures at c.is_given-given.ensures)
           ∙ ap (given (name_in s c.args.x)) (set.ensures s t)) refl F.ensures),
       written-size (block_names s t k) (map_names s t k) c.args.ops.now _ W.result
           (read_formula (field_of s c.args.f)) (shallow_fits s c.args.f c.requires.0) W.ensures,
@@ -43,10 +43,10 @@ pub with_statements-next-requires : goal.with_statements-next-requires
 with_statements-next-requires c =
     let s = c.args.here.line.text.now in
     let t = c.args.here.table.now in
-    let set = c.block_names-set in
+    let set = c.block_names in
     let W = c.write_let-unknown in
     let F = let_fits c.args.here c.args.x c.args.f c.requires.0 c.requires.1
-    W.result _ _ W.ensures (c.is_given-given.ensures
+    W.result _ _ W.ensures ((rw c.set-set.ensures at c.is_given-given.ensures)
     ∙ ap (given (name_in s c.args.x)) (set.ensures s t)) refl c.in_ok-first_fault.ensures in
     (omega arith, omega (arith, F.1))
 
@@ -54,12 +54,12 @@ pub invariant_of-result : goal.invariant_of-result
 invariant_of-result c =
     let s = c.args.here.line.text.now in
     let t = c.args.here.table.now in
-    let set = c.block_names-set in
+    let set = c.block_names in
     let W = c.write_let-unknown in
     record {
       sound =
           let_limited c.args.here c.args.x c.args.f c.requires.0 c.requires.1 W.result _ _ W.ensures
-          (c.is_given-given.ensures ∙ ap (given (name_in s c.args.x)) (set.ensures s t)) refl
+          ((rw c.set-set.ensures at c.is_given-given.ensures) ∙ ap (given (name_in s c.args.x)) (set.ensures s t)) refl
           c.in_ok-first_fault.ensures c.with_statements-next.ensures;
     }
 
@@ -68,12 +68,12 @@ returns c =
     let k = c.args.here.held.known in
     let s = c.args.here.line.text.now in
     let t = c.args.here.table.now in
-    let set = c.block_names-set in
+    let set = c.block_names in
     let W = c.write_let-unknown in
     let e = c.in_ok-first_fault.ensures in
     let free = no_faults _ _ _ _ _ e refl in (
       let_grown c.args.here c.args.x c.args.f c.requires.0 c.requires.1 W.result _ _
-          W.ensures (c.is_given-given.ensures
+          W.ensures ((rw c.set-set.ensures at c.is_given-given.ensures)
           ∙ ap (given (name_in s c.args.x)) (set.ensures s t)) refl e
           (c.args.here.low free.0)
           c.with_statements-next.ensures,

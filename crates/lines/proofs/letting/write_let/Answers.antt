@@ -11,8 +11,9 @@ compile-r-requires c =
     let s = h.line.text.now in
     let t = h.table.now in
     let n = c.block_names-names in
-    let p = c.part in (
-      let_looks s t h.held.known c.args.f n.result (n.ensures s t) _ p.ensures _ refl refl h.held.sound c.requires.0,
+    let p = c.part in
+    rw c.set.ensures (
+      let_looks _ t h.held.known c.args.f n.result (n.ensures s t) p.ensures refl refl h.held.sound c.requires.0,
       omega arith,
       let_room s t h.held.known c.args.f n.result (n.ensures s t) _ p.ensures c.requires.1,
     )
@@ -24,7 +25,7 @@ returns-then-r-eq0 c =
     let n = c.block_names-names in
     let r = c.compile-r in
     let_alone_lem h.line.text.now h.table.now h.held.known c.args.f n.result (n.ensures h.line.text.now h.table.now) _
-    c.part.ensures c.args.out.now _ _ r.result r.ensures c.if-r-eq0.true refl
+    c.part.ensures c.args.out.now _ _ r.result (rw c.set.ensures at r.ensures) c.if-r-eq0.true refl
 
 pub returns : goal.returns
 unfolding names_in
@@ -33,4 +34,4 @@ returns c =
     let n = c.block_names-names in
     let r = c.compile-r in
     let_several h.line.text.now h.table.now h.held.known c.args.f n.result (n.ensures h.line.text.now h.table.now) _
-    c.part.ensures c.args.out.now _ _ r.result r.ensures c.if-r-eq0.false refl
+    c.part.ensures c.args.out.now _ _ r.result (rw c.set.ensures at r.ensures) c.if-r-eq0.false refl

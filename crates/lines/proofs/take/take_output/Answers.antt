@@ -53,7 +53,7 @@ returns-in_err-first_fault c =
     (ap (λ (o : Option (List Name)). o >>= λ xs. some (output xs)) here)
     (λ y z. record {
       repeats = c.is_repeated-repeats.ensures;
-      unknown = c.find_outputs-found.ensures.unknown;
+      unknown = (rw c.set-set.ensures at c.find_outputs-found.ensures).unknown;
       exceeds = refl;
       miscounts = ap (λ (i : ℕ). not (eqb i k.shares)) (sym long);
       shallow = refl;
@@ -72,7 +72,7 @@ returns c =
     let was : c.read_outputs.result ≡ some R = search rules in
     let here : some ns ≡ names_of (pieces_of c.args.here.line) = rw was at c.read_outputs.ensures in
     let long = read_length s R (omega arith) in
-    let found = c.find_outputs-found.ensures in
+    let found = rw c.set-set.ensures at c.find_outputs-found.ensures in
     took_set c.args.here (output ns)
     (ap (λ (o : Option (List Name)). o >>= λ xs. some (output xs)) here)
     (λ y z. record {

@@ -32,7 +32,7 @@ returns-in_err-first_fault c =
     (took_fault c.args.here (result (name_in s c.args.x)) refl
     (λ y z. record {
       repeats = refl;
-      unknown = found-missing ms _ c.find_name-found.ensures c.is_none.result c.is_none.ensures;
+      unknown = found-missing ms _ (rw c.set-set.ensures at c.find-found.ensures) c.is_none.result c.is_none.ensures;
       exceeds = refl;
       miscounts = refl;
       shallow = refl;
@@ -46,7 +46,7 @@ returns c =
     let K = c.args.here.held.sound in
     let s = c.args.here.line.text.now in
     let t = c.args.here.table.now in
-    let found = c.find_name-found.ensures in
+    let found = rw c.set-set.ensures at c.find-found.ensures in
     let place = c.unwrap_or.result in
     let ms = origin_names s t k in
     let long = sym (listed-length s t origin_from k.wholes) in

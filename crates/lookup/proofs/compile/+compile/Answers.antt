@@ -25,15 +25,15 @@ use Rattle.lookup.proofs.compile.+compile.Goals.{In-Two, In-Image, Joined-o, in-
 -- the first part was looked up
 begun : (t : ℕ) (c : Joined-o t)
     → let a = c.args in
-    Begun (set_in a.w.text.now a.w.table.now a.w) (maps_in a.w.text.now a.w.table.now a.w) a.w.base a.at a.done
+    Begun (set_in a.w) (maps_in a.w) a.w.base a.at a.done
     a.w.field.now a.out.now c.match-o.out c.match-o.first c.match-o.o
 begun t c =
     let a = c.args in
     let mark = c.find_mark-mark.result in
     let marked = c.find_mark-mark.ensures in
     let known = c.operation_at-o.ensures in
-    let ms = set_in a.w.text.now a.w.table.now a.w in
-    let maps = maps_in a.w.text.now a.w.table.now a.w in
+    let ms = set_in a.w in
+    let maps = maps_in a.w in
     let L : a.at ≤ length a.w.field.now = c.requires.1 in
     let R : Room a.done (parsed (drop a.at a.w.field.now)) = c.requires.2 in
     elim c.match-o.branch [
@@ -70,8 +70,8 @@ overflow_add-mark t c = omega (arith, two-inside t (goal.at.overflow_add-mark t 
 pub compile-first-requires : goal.compile-first-requires
 compile-first-requires t c =
     let a = c.args in
-    let ms = set_in a.w.text.now a.w.table.now a.w in
-    let maps = maps_in a.w.text.now a.w.table.now a.w in
+    let ms = set_in a.w in
+    let maps = maps_in a.w in
     let at : length a.w.field.now - a.at ≡ t = c.decreases in
     let mark = c.find_mark-mark.ensures in
     let inside = two-inside t (goal.at.compile-first-requires t c).In-Two in (
@@ -95,7 +95,7 @@ find_map-requires t c =
 pub unreachable-requires : goal.unreachable-requires
 unreachable-requires t c =
     let a = c.args in
-    unknown-none (set_in a.w.text.now a.w.table.now a.w) (maps_in a.w.text.now a.w.table.now a.w) a.w.base
+    unknown-none (set_in a.w) (maps_in a.w) a.w.base
     a.at a.done c.find_mark-mark.result a.w.field.now [] [] (compiled_of 0 false (Byte 0) 0) c.requires.1
     c.find_mark-mark.ensures c.requires.2 (sym c.operation_at-o.ensures ∙ c.in-Unknown.is)
 
@@ -110,7 +110,7 @@ find_operand-requires t c =
 pub unwrap-first-requires : goal.unwrap-first-requires
 unwrap-first-requires t c =
     let a = c.args in
-    let n = image-named (set_in a.w.text.now a.w.table.now a.w) (maps_in a.w.text.now a.w.table.now a.w) a.w.base
+    let n = image-named (set_in a.w) (maps_in a.w) a.w.base
     a.at a.done c.find_mark-mark.result a.w.field.now [] [] (compiled_of 0 false (Byte 0) 0) c.requires.1
     c.find_mark-mark.ensures c.requires.2 (sym c.operation_at-o.ensures ∙ c.in-Image.is) in
     there _ n.0 n.1 c.find_map.ensures
@@ -118,7 +118,7 @@ unwrap-first-requires t c =
 pub unwrap-requires : goal.unwrap-requires
 unwrap-requires t c =
     let a = c.args in
-    let n = operand-there (set_in a.w.text.now a.w.table.now a.w) (maps_in a.w.text.now a.w.table.now a.w) a.w.base
+    let n = operand-there (set_in a.w) (maps_in a.w) a.w.base
     a.at a.done c.find_mark-mark.result a.w.field.now [] [] (compiled_of 0 false (Byte 0) 0) c.requires.1
     c.find_mark-mark.ensures c.requires.2 (sym c.operation_at-o.ensures ∙ c.in-Operand.is) in
     there _ n.0 n.1 c.find_operand.ensures
@@ -126,7 +126,7 @@ unwrap-requires t c =
 pub returns-in-Operand : goal.returns-in-Operand
 returns-in-Operand t c =
     let a = c.args in
-    operand-compiled (set_in a.w.text.now a.w.table.now a.w) (maps_in a.w.text.now a.w.table.now a.w) a.w.base a.at
+    operand-compiled (set_in a.w) (maps_in a.w) a.w.base a.at
     a.done c.find_mark-mark.result a.w.field.now a.out.now _ _ c.requires.1
     c.find_mark-mark.ensures c.requires.2
     (sym c.operation_at-o.ensures ∙ c.in-Operand.is)

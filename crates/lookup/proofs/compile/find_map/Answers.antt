@@ -19,7 +19,7 @@ abbrev told : (c : Start) → Option Name → Option Compiled
 told c o =
     let a = c.args in
     o >>= λ g. Some (looked (a.at + until is_mark (drop a.at a.w.field.now))
-    (term_found (maps_in a.w.text.now a.w.table.now a.w) (name g))
+    (term_found (maps_in a.w) (name g))
     a.done)
 
 pub returns-in_err-g : goal.returns-in_err-g
@@ -28,7 +28,7 @@ returns-in_err-g c =
     let q : c.from_residual.result ≡ None = search rules in
     q ∙ ap (told (goal.at.returns-in_err-g c).Start) (c.in_err-g.ensures
     ∙ ap read_name
-    (map-looked a.w.text.now a.w.field.now a.w a.at _ c.requires.0 c.requires.1 c.find_mark-mark.ensures))
+    (map-looked a.w a.at _ c.requires.0 c.requires.1 c.find_mark-mark.ensures))
 
 pub returns : goal.returns
 returns c =
@@ -36,4 +36,4 @@ returns c =
     let m = c.find_mark-mark.ensures in
     (λ i. Some (c.made.ensures i)) ∙ (λ i. Some (looked (m i) (c.find_term-x.ensures i) a.done))
     ∙ ap (told (goal.at.returns c).Start) (c.in_ok-g.ensures
-    ∙ ap read_name (map-looked a.w.text.now a.w.field.now a.w a.at _ c.requires.0 c.requires.1 m))
+    ∙ ap read_name (map-looked a.w a.at _ c.requires.0 c.requires.1 m))

@@ -14,18 +14,18 @@ use Rattle.lookup.proofs.compile.find_operand.Goals.{Start}
 abbrev told : (c : Start) → Option Term → Option Compiled
 told c o =
     let a = c.args in
-    o >>= λ x. Some (looked a.mark (term_found (set_in a.w.text.now a.w.table.now a.w) x) a.done)
+    o >>= λ x. Some (looked a.mark (term_found (set_in a.w) x) a.done)
 
 pub returns-in_err-a : goal.returns-in_err-a
 returns-in_err-a c =
     let a = c.args in
     let q : c.from_residual.result ≡ None = search rules in
     q ∙ ap (told (goal.at.returns-in_err-a c).Start) (c.in_err-a.ensures
-    ∙ ap read_term (term-looked a.w.text.now a.w.field.now a.w a.at a.mark c.requires.0 c.requires.1 c.requires.2))
+    ∙ ap read_term (term-looked a.w a.at a.mark c.requires.0 c.requires.1 c.requires.2))
 
 pub returns : goal.returns
 returns c =
     let a = c.args in
     (λ i. Some (c.made.ensures i)) ∙ (λ i. Some (looked a.mark (c.find_term-x.ensures i) a.done))
     ∙ ap (told (goal.at.returns c).Start) (c.in_ok-a.ensures
-    ∙ ap read_term (term-looked a.w.text.now a.w.field.now a.w a.at a.mark c.requires.0 c.requires.1 c.requires.2))
+    ∙ ap read_term (term-looked a.w a.at a.mark c.requires.0 c.requires.1 c.requires.2))
