@@ -37,7 +37,7 @@ pub struct Compiled {
     pub done: usize,
 }
 
-// Looks up the formula at place `at` of the field f, and writes its operations.
+// Looks up the formula at place `at` of the field, and writes its operations.
 pub fn compile<'a>(w: Lookup<'a>, at: usize, done: usize, out: &mut Ops) -> Compiled
     requires { Compilable w at done }
     ensures { CompilesAt out.old out.new w.entry at done result }

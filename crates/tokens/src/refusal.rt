@@ -1,8 +1,8 @@
-// Why a text is refused.
+// Why a text, a run or a map is refused.
 ghost use Rattle.std.specs.Prelude.{◌≡◌};
 ghost use Rattle.tokens.specs.Refusal.{number};
 
-// The refusals of the paper, in its order. LongText to TrialCount are its numbers 2 to 14.
+// The refusals of the rules, in their order: 1 to 14.
 #[derive(Clone, Copy, PartialEq, Eq, Debug)]
 pub enum Refusal {
     // A work buffer or the byte list is too short.
@@ -25,9 +25,9 @@ pub enum Refusal {
     TooMany,
     // An output has not k names.
     OutputCount,
-    // The number of bytes is not the program's.
+    // A run has not one byte for each variable.
     ByteCount,
-    // The list of coefficients has not nine bytes.
+    // A map's list has not nine bytes.
     ListLength,
     // A formula nests above 8.
     TooDeep,
@@ -36,7 +36,7 @@ pub enum Refusal {
 }
 
 impl Refusal {
-    // The number in the paper, 1 to 14.
+    // Its number, 1 to 14.
     pub fn number(self) -> u8
         ensures { result ≡ number self }
     {
