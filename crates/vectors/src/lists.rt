@@ -1,7 +1,6 @@
 // The lent buffers: at their least lengths, one below and one above, and what is left in them.
 use crate::show::{end_line, print_number, print_small, print_word};
 use crate::stored::Case;
-use arrayvec::ArrayVec;
 use judge::judge_with;
 use std::io::Write;
 use verdict::report::Trials;
@@ -71,29 +70,30 @@ pub(crate) fn print_kept(output: &mut impl Write, case: Case<'_>) {
 // Judges a text in buffers of these lengths and prints the refusal's number, and how many bytes of
 // each buffer are as they were.
 fn print_judged(output: &mut impl Write, case: Case<'_>, lengths: Lengths) {
-    let mut left = ArrayVec::from([BEFORE; 65281]);
-    let mut right = ArrayVec::from([BEFORE; 65281]);
-    let mut list = ArrayVec::from([BEFORE; 17]);
-    left.truncate(lengths.left);
-    right.truncate(lengths.right);
-    list.truncate(lengths.list);
-    let report = judge_with(
-        case.text,
-        case.trials,
-        left.as_mut_slice(),
-        right.as_mut_slice(),
-        list.as_mut_slice(),
-    );
+    let mut left = [BEFORE; 65281];
+    let mut right = [BEFORE; 65281];
+    let mut list = [BEFORE; 17];
+    let left = &mut left[..lengths.left.min(65281)];
+    let right = &mut right[..lengths.right.min(65281)];
+    let list = &mut list[..lengths.list.min(17)];
+    let report = judge_with(case.text, case.trials, left, right, list);
     print_word(output, case.name);
     print_word(output, b"_kept");
     print_small(output, report.refusal);
-    print_number(output, unchanged(left.as_slice()));
-    print_number(output, unchanged(right.as_slice()));
-    print_number(output, unchanged(list.as_slice()));
+    print_number(output, unchanged(left));
+    print_number(output, unchanged(right));
+    print_number(output, unchanged(list));
     end_line(output);
 }
 
-// How many bytes of a buffer are as they were.
+// How many bytes of a buffer are as they were. A chain with `filter` and `count` takes longer.
 fn unchanged(buffer: &[u8]) -> usize {
-    buffer.iter().filter(|byte| **byte == BEFORE).count()
+    let mut n = 0;
+    // so many of the bytes before this one are as they were
+    for byte in buffer {
+        if *byte == BEFORE {
+            n += 1;
+        }
+    }
+    n
 }

@@ -1,4 +1,6 @@
 // Each stored text run on bytes, one for each of its variables, and coefficients of lists of bytes.
+ghost use Rattle.std.specs.Prelude.{◌≤◌, length};
+
 use crate::show::{end_line, print_byte, print_bytes, print_number, print_small, print_word};
 use crate::stored::Case;
 use std::io::Write;
@@ -26,7 +28,9 @@ pub(crate) fn print_run(output: &mut impl Write, case: Case<'_>) {
 }
 
 // The first of the bytes, as many as are not refused by 11; all where each number of them is.
-fn taken(text: &[u8]) -> &'static [u8] {
+fn taken(text: &[u8]) -> &'static [u8]
+    ensures { length result.now ≤ 16 }
+{
     let fits = |n: &usize| run(text, &BYTES[..*n]).refusal != 11;
     &BYTES[..(0..16).find(fits).unwrap_or(16)]
 }
