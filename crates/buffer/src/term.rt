@@ -20,21 +20,28 @@ pub fn compare_powers(a: &[u8], b: &[u8]) -> Ordering
     Ordering::Equal
 }
 
-// The bytes from..to moved up by `by`.
+// The bytes from..to moved up by `by`, the last one first. By hand, as in the two functions behind:
+// with `copy_within` and `copy_from_slice` the archive for C would need `memmove` from outside.
 pub fn move_up(b: &mut [u8], from: usize, to: usize, by: usize)
     requires { (from ≤ to) × (to + by ≤ length b.old) }
     ensures { MovedUp b.old b.new from to by }
 {
-    b.copy_within(from..to, from + by);
+    // the bytes behind byte j are moved
+    for j in (from..to).rev() {
+        b[j + by] = b[j];
+    }
 }
 
-// The bytes from..to moved down by `by`. No twin of `move_up`: each asks for another bound, and a
-// place to move to in place of both would have to be bounded twice.
+// The bytes from..to moved down by `by`, the first one first. No twin of `move_up`: each asks for
+// another bound, and a place to move to in place of both would have to be bounded twice.
 pub fn move_down(b: &mut [u8], from: usize, to: usize, by: usize)
     requires { (from ≤ to) × (by ≤ from) × (to ≤ length b.old) }
     ensures { MovedDown b.old b.new from to by }
 {
-    b.copy_within(from..to, from - by);
+    // the bytes before byte j are moved
+    for j in from..to {
+        b[j - by] = b[j];
+    }
 }
 
 // The bytes of t written at byte `at`.
@@ -42,5 +49,8 @@ pub fn write_at(b: &mut [u8], at: usize, t: &[u8])
     requires { at + length t.now ≤ length b.old }
     ensures { Written b.old b.new at t.now }
 {
-    b[at..at + t.len()].copy_from_slice(t);
+    // the bytes of t before byte j are written
+    for (j, byte) in t.iter().enumerate() {
+        b[at + j] = *byte;
+    }
 }
