@@ -8,6 +8,7 @@ use native.Mathlib.Nat.{zero-lt-suc, mul-le-mul_right}
 use native.Mathlib.Numerals.{add-one}
 use lib.ListN.{length, get_or, take, drop, set, length-set, length-append}
 use lib.Seq.{get_or-set_same, get_or-set_other, drop-set-lt}
+use Rattle.std.specs.declared.cmp.Ordering.{Ordering as Answer}
 use Rattle.field.specs.Laws.{Ops}
 use Rattle.poly.specs.Poly.{term, Poly, order, keep, into}
 use Rattle.poly.specs.Canon.{Coefs, Above, Sorted, Nonzero}
@@ -17,6 +18,7 @@ use Rattle.poly.proofs.Laws.Insert.{keep_some}
 use Rattle.poly.proofs.Laws.Merge.{merge_less, merge_more, merge_same}
 use Rattle.poly.proofs.Laws.Order.{gt≢lt, eq≢lt, order_same}
 use Rattle.buffer.proofs.Lent.Reads.{read_length, read_same, read-shift, read_more}
+use Rattle.buffer.proofs.Lent.Places.{answer_unique}
 use Rattle.buffer.proofs.Lent.Strides.{next_row}
 use Rattle.product.specs.Merge.{Merging, against, facing, Grown, Stepped}
 
@@ -45,6 +47,10 @@ pub facing-left : (b : List ℕ) (w i end j : ℕ) (o : Ordering) → o ≢ Orde
 facing-left b w i end j o n q =
     let s = some_left (take (w - 1) (drop (suc (j * w)) b)) (w - 1) b (i * w) (end - i) (λ e. n (sym q ∙ e)) in
     omega arith
+
+-- what the comparison answered tells which comes first
+pub answer-told : {a : Answer} {o p : Ordering} → a ≡ answer o → a ≡ answer p → o ≡ p
+answer-told {a} {o} {p} e s = answer_unique o p (sym e ∙ s)
 
 -- powers that come first come before the list
 against-above : (e : List ℕ) (p : Poly) → against e p ≡ Ordering.lt → Above e p

@@ -1,20 +1,15 @@
 -- `product::merge::merge_step` meets its contract: the piece's term, the sum's, or both joined. Assumes nothing.
-use Prim.Native.Nat.{Ordering}
-use mathlib.Core.Path.{sym}
-use Rattle.field.specs.Laws.{gf}
-use Rattle.buffer.proofs.Lent.Places.{answer_unique}
-use Rattle.product.proofs.Lent.Merging.{step-piece, step_sum, step_both}
+use Rattle.product.proofs.Lent.Merging.{answer-told, step-piece, step_sum, step_both}
 use Rattle.product.proofs.merge.merge_step.Goals as goal
 
+-- the three steps, and what the comparison told: one list for every arm, which is held to its own answer
+ruleset merge-steps = (step-piece, step_sum, step_both, answer-told)
+
 pub returns-in-Less : goal.returns-in-Less
-returns-in-Less c =
-    λ m last l h. step-piece (gf m) h l (answer_unique _ Ordering.lt (sym c.in-Less.ensures)) c.take_term.ensures
+returns-in-Less c = search merge-steps
 
 pub returns-in-Greater : goal.returns-in-Greater
-returns-in-Greater c =
-    λ m last l h.
-    step_sum (gf m) h l (answer_unique _ Ordering.gt (sym c.in-Greater.ensures)) c.take_term-in-Greater.ensures
+returns-in-Greater c = search merge-steps
 
 pub returns-in-Equal : goal.returns-in-Equal
-returns-in-Equal c =
-    λ m last l h. step_both (gf m) h l (answer_unique _ Ordering.eq (sym c.in-Equal.ensures)) c.join_terms.ensures
+returns-in-Equal c = search merge-steps
