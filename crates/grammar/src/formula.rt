@@ -1,14 +1,14 @@
 // A formula on one line, read where it stands: its form at any depth, how deep it nests, and how
 // many operations it has.
-ghost use Rattle.std.specs.Prelude.{◌≡◌, ◌+◌, ◌-◌, ◌≤◌, length, take, drop};
-ghost use Rattle.tokens.specs.Ascii.{is_mark};
+ghost use Rattle.std.specs.Prelude.{◌≡◌, ◌+◌, ◌-◌, ◌≤◌, length, take, drop, IfSome};
+ghost use Rattle.tokens.specs.Ascii.{is_mark, closing};
 ghost use Rattle.tokens.specs.Split.{until};
 ghost use Rattle.tokens.specs.Token.{is_some, read_term, read_plain};
 ghost use Rattle.grammar.specs.TextLine.{pieces_of};
 ghost use Rattle.grammar.specs.Formula.{operation_of, operation_at, front, read_formula};
 ghost use Rattle.grammar.specs.Recorded.{formula_of};
-ghost use Rattle.grammar.specs.Measured.{alone, leaf, stands_at, passed_over, joined_of};
-ghost use Rattle.grammar.specs.Measured.{FormulaIs, Joins, MeasureIs};
+ghost use Rattle.grammar.specs.Measured.{alone, leaf, stands_at, passed_over, passed_with};
+ghost use Rattle.grammar.specs.Measured.{joined_of, FormulaIs, Joins, MeasureIs};
 
 use crate::line::TextLine;
 use crate::record;
@@ -66,8 +66,8 @@ pub fn formula(f: &[u8], at: usize) -> Option<FormulaRead>
         Operation::Operand => return operand(f, at, mark),
     };
     let left = passed(f, first, b',')?;
-    let second = formula(f, left.end)?;
-    let right = passed(f, second, b')')?;
+    let second = formula(f, left.end);
+    let right = bracketed(f, second)?;
     Some(joined(left, right))
 }
 
@@ -132,6 +132,15 @@ pub(crate) fn passed(f: &[u8], r: FormulaRead, m: u8) -> Option<FormulaRead>
         depth: r.depth,
         operations: r.operations,
     })
+}
+
+// What was read, and behind it its bracket ); none where nothing was read.
+pub(crate) fn bracketed(f: &[u8], r: Option<FormulaRead>) -> Option<FormulaRead>
+    requires { IfSome r (λ a. a.end ≤ length f.now) }
+    ensures { result ≡ passed_with f.now r closing }
+{
+    let r = r?;
+    passed(f, r, b')')
 }
 
 // An operation on two parts, that ends where b does.

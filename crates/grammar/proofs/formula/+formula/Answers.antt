@@ -1,14 +1,14 @@
 -- A formula is read by its first mark: the parts of an operation are formulas that start behind it. Assumes nothing.
 use native.Mathlib.Omega.{arith}
-use mathlib.Core.Path.{◌≡◌, ap, sym, subst, ◌∙◌}
+use mathlib.Core.Path.{◌≡◌, sym, subst, ◌∙◌}
 use lib.ListN.{length}
 use Prim.Native.Nat.{ℕ, ◌+◌, ◌-◌, ◌<◌}
 use Rattle.std.specs.Prelude.{None as none, Some as some}
 use Rattle.tokens.specs.Ascii.{closing}
 use Rattle.grammar.specs.declared.formula.FormulaRead.{FormulaRead}
-use Rattle.grammar.specs.Formula.{depth, operations, closed}
+use Rattle.grammar.specs.Formula.{depth, operations}
 use Rattle.grammar.specs.Measured.{PlaceIs}
-use Rattle.grammar.proofs.Laws.Measured.{passed-found}
+use Rattle.grammar.proofs.Laws.Measured.{passed-either, found_within}
 use Rattle.grammar.proofs.Laws.Paired.{Marked, FirstIs, first-formula, first-map, first-place, first-none, map_read}
 use Rattle.grammar.proofs.Laws.Paired.{mark_two, mark_image, operand_read, unknown-read, comma-none, left_place}
 use Rattle.grammar.proofs.Laws.Paired.{pair_read}
@@ -100,32 +100,24 @@ returns-in_err-left t c =
     rw c.from_residual-in_err-left.ensures
     (comma-none (marked t p.After-find_mark-mark) _ (first-is t p.Joined-operation_at) c.in_err-left.ensures)
 
-pub formula-requires-2 : goal.formula-requires-2
-formula-requires-2 t c =
-    let p = goal.at.formula-requires-2 t c in
+pub formula-second-requires : goal.formula-second-requires
+formula-second-requires t c =
+    let p = goal.at.formula-second-requires t c in
     let at : length c.args.f.now - c.args.at ≡ t = c.decreases in
     let mark = c.find_mark-mark.ensures in
     let left =
     left_place (marked t p.After-find_mark-mark) _ _ (first-is t p.Joined-operation_at) c.in_ok-left.ensures in
     (omega arith, left.within)
 
-pub returns-in_err-second : goal.returns-in_err-second
-unfolding closed
-returns-in_err-second t c =
-    let p = goal.at.returns-in_err-second t c in
-    rw c.from_residual-in_err-second.ensures
-    (pair_read (marked t p.After-find_mark-mark) _ _ (first-is t p.Joined-operation_at) c.in_ok-left.ensures none
-    (ap (closed closing) c.in_err-second.ensures))
-
-pub passed-requires-2 : goal.passed-requires-2
-passed-requires-2 t c = c.in_ok-second.ensures.0.within
+pub bracketed-requires : goal.bracketed-requires
+bracketed-requires t c = found_within depth operations _ _ _ _ c.formula-second.ensures
 
 pub returns-in_err-right : goal.returns-in_err-right
 returns-in_err-right t c =
     let p = goal.at.returns-in_err-right t c in
     rw c.from_residual-in_err-right.ensures
     (pair_read (marked t p.After-find_mark-mark) _ _ (first-is t p.Joined-operation_at) c.in_ok-left.ensures none
-    (passed-found depth operations _ _ closing _ _ c.in_ok-second.ensures c.in_err-right.ensures))
+    (passed-either depth operations _ _ closing _ _ c.formula-second.ensures c.in_err-right.ensures))
 
 pub joined-requires : goal.joined-requires
 joined-requires t c =
@@ -133,7 +125,7 @@ joined-requires t c =
     let left =
     left_place (marked t p.After-find_mark-mark) _ _ (first-is t p.Joined-operation_at) c.in_ok-left.ensures in
     let right : PlaceIs c.args.f.now c.in_ok-left.left.end c.in_ok-right.right =
-    (passed-found depth operations _ _ closing _ _ c.in_ok-second.ensures c.in_ok-right.ensures).0 in
+    (passed-either depth operations _ _ closing _ _ c.formula-second.ensures c.in_ok-right.ensures).0 in
     (omega arith, left.nested, right.nested)
 
 pub returns : goal.returns
@@ -142,4 +134,4 @@ returns t c =
     rw c.joined.ensures
     (pair_read (marked t p.After-find_mark-mark) _ _ (first-is t p.Joined-operation_at) c.in_ok-left.ensures
     (some c.in_ok-right.right)
-    (passed-found depth operations _ _ closing _ _ c.in_ok-second.ensures c.in_ok-right.ensures))
+    (passed-either depth operations _ _ closing _ _ c.formula-second.ensures c.in_ok-right.ensures))
