@@ -22,7 +22,7 @@ pub(crate) fn take_statement(here: Setting, x: NameRef, f: FormRead) -> Result<S
         from: 0,
         count: k.mapped,
     };
-    let form = set.find_form(maps, k.variables, f);
+    let form = set.find_form(maps, k.variables, Some(f)).unwrap();
     let given = set.is_given(x);
     let many = known::is_crowded(here.held, form.drawn);
     first_fault(here.stands, given, form.unknown, many, false)?;

@@ -18,7 +18,7 @@ use Rattle.grammar.specs.Line.{name_in, term_in}
 use Rattle.grammar.specs.declared.line.NameRef.{NameRef}
 use Rattle.grammar.specs.declared.line.TermRef.{TermRef}
 use Rattle.tokens.specs.Ascii.{any}
-use Rattle.grammar.specs.Recorded.{form_in, names_read}
+use Rattle.grammar.specs.Recorded.{form_in, form_at, names_read}
 use Rattle.grammar.specs.declared.outputs.Outputs.{Outputs}
 use Rattle.lookup.specs.declared.outputs.PlacesFound.{PlacesFound}
 use Rattle.lookup.specs.Names.{names_in, given_in}
@@ -72,9 +72,19 @@ unfoldable pub form_found : List Name → List Name → ℕ → Form → FormFou
 form_found ms maps v y =
     record { unknown = unknown_form ms maps y; op = op_in ms maps v y; drawn = drawn y }
 
--- the whole outcome of looking a form up in the set l and in the maps of its table
-abbrev pub FormIs : Set → Names → ℕ → FormRead → FormFound → Type 0
+-- what is found of a form; none where a part of it was not read
+abbrev pub form_told : List Name → List Name → ℕ → Option Form → Option FormFound
+form_told ms maps v none = none
+form_told ms maps v (some y) = some (form_found ms maps v y)
+
+-- the whole outcome of looking up a form, read or not, in the set l and in the maps of its table
+abbrev pub FormIs : Set → Names → ℕ → Option FormRead → Option FormFound → Type 0
 FormIs l maps v f r =
+    r ≡ form_told (given_in l) (names_in l.text.now l.table.now maps) v (form_at l.text.now f)
+
+-- the same of a form that was read
+abbrev pub FormReadIs : Set → Names → ℕ → FormRead → FormFound → Type 0
+FormReadIs l maps v f r =
     r ≡ form_found (given_in l) (names_in l.text.now l.table.now maps) v (form_in l.text.now f)
 
 -- the whole outcome of looking the names of an output line up in the set l

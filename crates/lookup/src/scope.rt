@@ -2,7 +2,7 @@
 ghost use Rattle.std.specs.Prelude.{◌≡◌, ℕ, List, map};
 ghost use Rattle.grammar.specs.Line.{name_in};
 ghost use Rattle.lookup.specs.Names.{names_in};
-ghost use Rattle.lookup.specs.Found.{GivenIs, NameIs, TermIs, PairIs, FormIs};
+ghost use Rattle.lookup.specs.Found.{GivenIs, NameIs, TermIs, PairIs, FormIs, FormReadIs};
 ghost use Rattle.lookup.specs.Found.{joined, operated};
 
 use crate::names::{Names, Set};
@@ -73,9 +73,17 @@ impl<'a> Set<'a> {
         }
     }
 
-    // Looks up what a statement reads, its maps in a set of their own; v is the next variable.
-    pub fn find_form(self, maps: Names, v: usize, f: FormRead) -> FormFound
+    // Looks up what a statement reads, its maps in a set of their own, v the next variable; none
+    // where a part of it was not read.
+    pub fn find_form(self, maps: Names, v: usize, f: Option<FormRead>) -> Option<FormFound>
         ensures { FormIs self.entry maps v f result }
+    {
+        Some(self.find_read(maps, v, f?))
+    }
+
+    // The same of a form that was read.
+    pub(crate) fn find_read(self, maps: Names, v: usize, f: FormRead) -> FormFound
+        ensures { FormReadIs self.entry maps v f result }
     {
         let others = Set {
             text: self.text,

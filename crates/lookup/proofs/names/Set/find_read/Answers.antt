@@ -1,7 +1,7 @@
 -- What the operands are found to be, put together. Assumes nothing.
 use Rattle.lookup.proofs.Laws.Finding.{set_form, two-form, app-form, rand-form}
 use Rattle.lookup.specs.Names.{names_in, given_in}
-use Rattle.lookup.proofs.names.Set.find_form.Goals as goal
+use Rattle.lookup.proofs.names.Set.find_read.Goals as goal
 
 pub returns-in-Set : goal.returns-in-Set
 returns-in-Set c =
