@@ -7,8 +7,8 @@ ghost use Rattle.tokens.specs.Token.{is_some, read_term, read_plain};
 ghost use Rattle.grammar.specs.TextLine.{pieces_of};
 ghost use Rattle.grammar.specs.Formula.{operation_of, operation_at, front, read_formula};
 ghost use Rattle.grammar.specs.Recorded.{formula_of};
-ghost use Rattle.grammar.specs.Measured.{alone, leaf, stands_at, passed_over, passed_with};
-ghost use Rattle.grammar.specs.Measured.{joined_of, FormulaIs, Joins, MeasureIs};
+ghost use Rattle.grammar.specs.Measured.{alone, leaf, stands_at, passed_over, passed_with, joined_of};
+ghost use Rattle.grammar.specs.Measured.{joined_with, FormulaIs, PlaceIs, Joins, MeasureIs};
 
 use crate::line::TextLine;
 use crate::record;
@@ -67,8 +67,7 @@ pub fn formula(f: &[u8], at: usize) -> Option<FormulaRead>
     };
     let left = passed(f, first, b',')?;
     let second = formula(f, left.end);
-    let right = bracketed(f, second)?;
-    Some(joined(left, right))
+    paired(f, left, second)
 }
 
 // The operation at place `at`, whose first mark is known.
@@ -134,13 +133,16 @@ pub(crate) fn passed(f: &[u8], r: FormulaRead, m: u8) -> Option<FormulaRead>
     })
 }
 
-// What was read, and behind it its bracket ); none where nothing was read.
-pub(crate) fn bracketed(f: &[u8], r: Option<FormulaRead>) -> Option<FormulaRead>
-    requires { IfSome r (λ a. a.end ≤ length f.now) }
-    ensures { result ≡ passed_with f.now r closing }
+// An operation on part a and the second part, with its bracket ) behind it; none where either was
+// not read.
+#[tactic(auto, unfolding(crate::specs::Measured::passed_over))]
+pub(crate) fn paired(f: &[u8], a: FormulaRead, second: Option<FormulaRead>) -> Option<FormulaRead>
+    requires { PlaceIs f.now 1 a × IfSome second (PlaceIs f.now a.end) }
+    ensures { result ≡ joined_with a (passed_with f.now second closing) }
 {
-    let r = r?;
-    passed(f, r, b')')
+    let b = second?;
+    let right = passed(f, b, b')')?;
+    Some(joined(a, right))
 }
 
 // An operation on two parts, that ends where b does.

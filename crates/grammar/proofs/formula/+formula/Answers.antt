@@ -3,12 +3,11 @@ use native.Mathlib.Omega.{arith}
 use mathlib.Core.Path.{◌≡◌, sym, subst, ◌∙◌}
 use lib.ListN.{length}
 use Prim.Native.Nat.{ℕ, ◌+◌, ◌-◌, ◌<◌}
-use Rattle.std.specs.Prelude.{None as none, Some as some}
+use Rattle.std.specs.Prelude.{Some as some}
 use Rattle.tokens.specs.Ascii.{closing}
 use Rattle.grammar.specs.declared.formula.FormulaRead.{FormulaRead}
 use Rattle.grammar.specs.Formula.{depth, operations}
-use Rattle.grammar.specs.Measured.{PlaceIs}
-use Rattle.grammar.proofs.Laws.Measured.{passed-either, found_within}
+use Rattle.grammar.proofs.Laws.Measured.{passed-either, found-place}
 use Rattle.grammar.proofs.Laws.Paired.{Marked, FirstIs, first-formula, first-map, first-place, first-none, map_read}
 use Rattle.grammar.proofs.Laws.Paired.{mark_two, mark_image, operand_read, unknown-read, comma-none, left_place}
 use Rattle.grammar.proofs.Laws.Paired.{pair_read}
@@ -109,29 +108,18 @@ formula-second-requires t c =
     left_place (marked t p.After-find_mark-mark) _ _ (first-is t p.Joined-operation_at) c.in_ok-left.ensures in
     (omega arith, left.within)
 
-pub bracketed-requires : goal.bracketed-requires
-bracketed-requires t c = found_within depth operations _ _ _ _ c.formula-second.ensures
-
-pub returns-in_err-right : goal.returns-in_err-right
-returns-in_err-right t c =
-    let p = goal.at.returns-in_err-right t c in
-    rw c.from_residual-in_err-right.ensures
-    (pair_read (marked t p.After-find_mark-mark) _ _ (first-is t p.Joined-operation_at) c.in_ok-left.ensures none
-    (passed-either depth operations _ _ closing _ _ c.formula-second.ensures c.in_err-right.ensures))
-
-pub joined-requires : goal.joined-requires
-joined-requires t c =
-    let p = goal.at.joined-requires t c in
+pub paired-requires : goal.paired-requires
+paired-requires t c =
+    let p = goal.at.paired-requires t c in
     let left =
-    left_place (marked t p.After-find_mark-mark) _ _ (first-is t p.Joined-operation_at) c.in_ok-left.ensures in
-    let right : PlaceIs c.args.f.now c.in_ok-left.left.end c.in_ok-right.right =
-    (passed-either depth operations _ _ closing _ _ c.formula-second.ensures c.in_ok-right.ensures).0 in
-    (omega arith, left.nested, right.nested)
+    left_place (marked t p.After-find_mark-mark) _ _ (first-is t p.Joined-operation_at) c.in_ok-left.ensures in (
+      record { from = omega (arith, left.from); within = left.within; nested = left.nested },
+      found-place depth operations _ _ _ _ c.formula-second.ensures,
+    )
 
 pub returns : goal.returns
 returns t c =
     let p = goal.at.returns t c in
-    rw c.joined.ensures
-    (pair_read (marked t p.After-find_mark-mark) _ _ (first-is t p.Joined-operation_at) c.in_ok-left.ensures
-    (some c.in_ok-right.right)
-    (passed-either depth operations _ _ closing _ _ c.formula-second.ensures c.in_ok-right.ensures))
+    rw c.paired.ensures
+    (pair_read (marked t p.After-find_mark-mark) _ _ (first-is t p.Joined-operation_at) c.in_ok-left.ensures _
+    (passed-either depth operations _ _ closing _ _ c.formula-second.ensures))
