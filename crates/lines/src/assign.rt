@@ -22,6 +22,7 @@ pub(crate) fn take_statement(here: Setting, x: NameRef, f: FormRead) -> Result<S
         from: 0,
         count: k.mapped,
     };
+    // the form was read, so something is told of it
     let form = set.find_form(maps, k.variables, Some(f)).unwrap();
     let given = set.is_given(x);
     let many = known::is_crowded(here.held, form.drawn);

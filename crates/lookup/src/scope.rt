@@ -13,7 +13,7 @@ use grammar::line::{NameRef, TermRef};
 use grammar::record::{Binary, FormRead};
 use rules::types::{Op, Operand};
 
-// An operand by its value's place, and whether its name is not given: the clause of `find_form`
+// An operand by its value's place, and whether its name is not given: the clause of `find_read`
 // says the operand also where it is not, so the flag stands beside it.
 #[derive(Clone, Copy)]
 pub struct TermFound {
@@ -22,7 +22,7 @@ pub struct TermFound {
 }
 
 // What a statement computes by places, the variables that it draws, and whether it reads what is
-// not given: the clause of `find_form` says the operation also where it does.
+// not given: the clause of `find_read` says the operation also where it does.
 #[derive(Clone, Copy)]
 pub struct FormFound {
     pub unknown: bool,

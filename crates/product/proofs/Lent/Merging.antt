@@ -49,8 +49,8 @@ facing-left b w i end j o n q =
     omega arith
 
 -- what the comparison answered tells which comes first
-pub answer-told : {a : Answer} {o p : Ordering} → a ≡ answer o → a ≡ answer p → o ≡ p
-answer-told {a} {o} {p} e s = answer_unique o p (sym e ∙ s)
+pub told-order : {a : Answer} {o p : Ordering} → a ≡ answer o → a ≡ answer p → o ≡ p
+told-order {a} {o} {p} e s = answer_unique o p (sym e ∙ s)
 
 -- powers that come first come before the list
 against-above : (e : List ℕ) (p : Poly) → against e p ≡ Ordering.lt → Above e p

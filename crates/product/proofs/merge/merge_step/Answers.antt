@@ -1,9 +1,9 @@
 -- `product::merge::merge_step` meets its contract: the piece's term, the sum's, or both joined. Assumes nothing.
-use Rattle.product.proofs.Lent.Merging.{answer-told, step-piece, step_sum, step_both}
+use Rattle.product.proofs.Lent.Merging.{told-order, step-piece, step_sum, step_both}
 use Rattle.product.proofs.merge.merge_step.Goals as goal
 
--- the three steps, and what the comparison told: one list for every arm, which is held to its own answer
-ruleset merge-steps = (step-piece, step_sum, step_both, answer-told)
+-- what each of the three steps writes, and which comes first by the answer: each case is proved from these
+ruleset merge-steps = (step-piece, step_sum, step_both, told-order)
 
 pub returns-in-Less : goal.returns-in-Less
 returns-in-Less c = search merge-steps
